@@ -1,0 +1,92 @@
+// Layouts: where the sectors of a volume lie on the members of a shelf.
+ghost use mathlib.Core.Path.{_≡_};
+ghost use mathlib.Core.Logic.{_⊎_};
+ghost use Prim.Native.Nat.{_≤_, _<_};
+ghost use Rattle.std.specs.Options.{Cases};
+ghost use Rattle.layout.specs.Limits.{Inside, Owned, Rowed};
+
+pub mod label;
+pub mod place;
+
+use label::Label;
+use place::Owner;
+use place::Place;
+
+pub const MOST_MEMBERS: u64 = 16;
+
+pub const MOST_DEPTH: u64 = 16_777_216;
+
+pub const MOST_CAPACITY: u64 = 268_435_456;
+
+// A layout: every sector below the capacity has a place for each of its copies; with parity, every sector is in one group, and the
+// group has a place for the exclusive-or of its peers. A customer's own layout implements this trait and has a label of kind 128 to 255.
+//
+// Every answer is defined: a place that is asked for a sector, copy or group out of range is (0, 0), a group None, a count 0.
+pub trait Layout {
+    // The label by which a head names the layout.
+    fn label(&self) -> Label;
+
+    // n, the members that it lies on: 0 to n - 1.
+    fn members(&self) -> u64
+        ensures { λ r. ⌜ 2 ≤ r ⌝ ∗ ⌜ r ≤ 16 ⌝ };
+
+    // d, the used sectors of each member.
+    fn depth(&self) -> u64
+        ensures { λ r. ⌜ 1 ≤ r ⌝ ∗ ⌜ r ≤ 16777216 ⌝ };
+
+    // f, the copies of each sector.
+    fn copies(&self) -> u64
+        ensures { λ r. ⌜ 1 ≤ r ⌝ ∗ ⌜ r ≤ 16 ⌝ };
+
+    // t, how many of its members may be absent with every sector still to be had.
+    fn loss(&self) -> u64
+        ensures { λ r. ⌜ r ≤ 16 ⌝ };
+
+    // L, the sectors of a row; row r has those from r × L on.
+    fn row_len(&self) -> u64
+        ensures { λ r. ⌜ Rowed r ⌝ };
+
+    // R, the number of rows.
+    fn rows(&self) -> u64
+        ensures { λ r. ⌜ Rowed r ⌝ };
+
+    // N = R × L, the sectors in all.
+    fn capacity(&self) -> u64
+        ensures { λ r. ⌜ Rowed r ⌝ };
+
+    // Where a copy of a sector lies.
+    fn place(&self, sector: u64, copy: u64) -> Place
+        ensures { λ r. ⌜ Inside r ⌝ };
+
+    // The group of a sector, where the layout has parity.
+    fn group(&self, sector: u64) -> Option<u64>
+        ensures { λ r. ⌜ Cases r (Unit {0}) (λ g. g < 268435456) ⌝ };
+
+    // How many sectors a group has.
+    fn peers(&self, group: u64) -> u64
+        ensures { λ r. ⌜ r ≤ 16 ⌝ };
+
+    // A sector of a group, counted from 0 in rising order.
+    fn peer(&self, group: u64, index: u64) -> u64
+        ensures { λ r. ⌜ r < 268435456 ⌝ };
+
+    // Where the parity of a group lies.
+    fn parity(&self, group: u64) -> Place
+        ensures { λ r. ⌜ Inside r ⌝ };
+
+    // What lies at a place.
+    fn owner(&self, place: Place) -> Owner
+        ensures { λ r. ⌜ Owned r ⌝ };
+}
+
+// The group whose first peer is this sector: each group of a row is led by one sector of the row.
+pub fn led_group<L: Layout>(layout: &L, sector: u64) -> Option<u64>
+    ensures { λ r. ⌜ Cases r (Unit {0}) (λ g. g < 268435456) ⌝ }
+{
+    let group = layout.group(sector)?;
+    if layout.peer(group, 0) == sector {
+        Some(group)
+    } else {
+        None
+    }
+}

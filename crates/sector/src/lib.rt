@@ -1,0 +1,28 @@
+// The sector: the 512 bytes that a shelf reads and writes at once.
+ghost use mathlib.Core.Path.{_≡_};
+ghost use Prim.Native.Nat.{ℕ, _<_};
+ghost use lib.ListN.{getD, length, replicate};
+ghost use Rattle.sector.specs.Folds.{folded};
+
+// bytes in a sector
+pub const SECTOR: usize = 512;
+
+// what one sector holds
+pub type Sector = [u8; SECTOR];
+
+// A sector of zeros.
+pub fn zeros() -> Sector
+    ensures { λ r. ⌜ r ≡ replicate 512 0 ⌝ }
+{
+    [0; SECTOR]
+}
+
+// Folds the sector that was read into the one that is written, by exclusive-or, byte for byte.
+// Parity is the fold of a group's data, and a lost datum the fold of all the others and the parity.
+pub fn fold(written: &mut Sector, read: &Sector)
+    ensures { λ _. ⌜ now (written .exit) ≡ folded (now (written .entry)) (now (read .entry)) ⌝ }
+{
+    for (i, byte) in read.iter().enumerate() {
+        written[i] ^= *byte;
+    }
+}
