@@ -1,6 +1,7 @@
 // What a call answers where it is not done: the closed list of refusals, and the fault where power or a member went in the middle of a call.
 ghost use mathlib.Core.Path.{_≡_};
 ghost use Rattle.std.specs.declared.option.Option.the-variants.{None, Some};
+ghost use Rattle.answer.specs.Faults.{inRow};
 ghost use Rattle.answer.specs.Numbers.{refusalNumber, operationNumber};
 ghost use Rattle.answer.specs.declared.Refused.{Refused};
 use std::fmt;
@@ -122,6 +123,26 @@ impl Refused {
         Refused {
             refusal,
             fault: Some(fault),
+        }
+    }
+}
+
+impl Refused {
+    // The same, met while a call was about a row.
+    pub fn in_row(self, row: u64) -> Refused
+        ensures { λ r. ⌜ r ≡ inRow self row ⌝ }
+    {
+        let Some(fault) = self.fault else {
+            return self;
+        };
+        Refused {
+            refusal: self.refusal,
+            fault: Some(Fault {
+                operation: fault.operation,
+                member: fault.member,
+                sector: fault.sector,
+                row: Some(row),
+            }),
         }
     }
 }

@@ -2,7 +2,9 @@
 ghost use mathlib.Core.Path.{_≡_};
 ghost use Prim.Native.Nat.{_+_, _≤_, _<_};
 ghost use lib.ListN.{length};
+
 mod bytes;
+
 use layout::label::LABEL;
 use layout::label::Label;
 use layout::label::LabelDebug;
@@ -20,32 +22,52 @@ pub const MOST_BACKUP: u32 = 4_096;
 
 // the shelf sectors before the backup slots: the head, the logged datum and the logged parity
 pub const HEAD_AT: u64 = 0;
+
 pub const LOGGED_DATUM_AT: u64 = 1;
+
 pub const LOGGED_PARITY_AT: u64 = 2;
+
 pub const SLOTS_AT: u64 = 3;
 
 const MARK: [u8; 2] = [0x52, 0x48];
+
 const EDITION: u8 = 1;
+
 const IDLE: u8 = 0;
+
 const MOVING: u8 = 1;
+
 const UNARMED: u8 = 0;
+
 const ARMED: u8 = 1;
 
 const NUMBER_AT: usize = 8;
+
 const SOURCE_AT: usize = 16;
+
 const TARGET_AT: usize = 32;
+
 const SIZE_AT: usize = 48;
+
 const SETTLED_AT: usize = 56;
+
 const KEPT_AT: usize = 64;
+
 const BACKUP_AT: usize = 72;
+
 const LOGGED_AT: usize = 80;
+
 const TAIL_AT: usize = 88;
 
 // Whether the volume moves, and how far it has come: the target's settled rows and the source's kept rows.
 #[derive(Clone, Copy, PartialEq, Eq, Debug)]
 pub enum Progress {
     Idle,
-    Moving { target: Label, settled: u64, kept: u64 },
+    Moving {
+        target: Label,
+        settled: u64,
+        kept: u64,
+    },
 }
 
 // An idle head has no target and no rows, and an unarmed one no logged sector, so neither can be said wrong.
@@ -84,8 +106,7 @@ impl Head {
             target,
             settled,
             kept,
-        } = self.progress
-        {
+        } = self.progress {
             out[3] = MOVING;
             bytes::put(&mut out, TARGET_AT, &target.to_bytes());
             bytes::put_u64(&mut out, SETTLED_AT, settled);
@@ -115,6 +136,30 @@ impl Head {
     }
 }
 
+impl Head {
+    // The head of the next checkpoint, with the size and the backup as they are; None where no number is left.
+    pub fn next(&self, source: Label, progress: Progress, armed: Option<u64>) -> Option<Head> {
+        if self.number >= MOST_NUMBER {
+            return None;
+        }
+        Some(Head {
+            number: self.number + 1,
+            source,
+            progress,
+            size: self.size,
+            backup: self.backup,
+            armed,
+        })
+    }
+
+    // How many checkpoints can still be numbered.
+    pub fn numbers_left(&self) -> u64
+        ensures { λ r. ⌜ r + now (self .entry) .number ≡ 9223372036854775807 ⌝ }
+    {
+        MOST_NUMBER - self.number
+    }
+}
+
 // Mark and edition, and zeros wherever nothing is said.
 fn has_fixed_bytes(bytes: &[u8]) -> bool
     requires { ⌜ length (now bytes) ≡ 512 ⌝ }
@@ -133,7 +178,9 @@ fn progress_of(bytes: &[u8]) -> Option<Progress>
 {
     match bytes[3] {
         IDLE => {
-            if bytes::all_zero(&bytes[TARGET_AT..TARGET_AT + LABEL]) && bytes::all_zero(&bytes[SETTLED_AT..KEPT_AT + 8]) {
+            if bytes::all_zero(&bytes[TARGET_AT..TARGET_AT + LABEL])
+                && bytes::all_zero(&bytes[SETTLED_AT..KEPT_AT + 8])
+            {
                 Some(Progress::Idle)
             } else {
                 None
@@ -154,13 +201,7 @@ fn armed_of(bytes: &[u8]) -> Option<Option<u64>>
 {
     let logged = bytes::u64_at(bytes, LOGGED_AT);
     match bytes[4] {
-        UNARMED => {
-            if logged == 0 {
-                Some(None)
-            } else {
-                None
-            }
-        }
+        UNARMED => { if logged == 0 { Some(None) } else { None } }
         ARMED => Some(Some(logged)),
         _ => None,
     }

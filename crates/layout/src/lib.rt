@@ -8,6 +8,7 @@ ghost use Rattle.layout.specs.Limits.{Inside, Owned, Rowed};
 pub mod label;
 pub mod place;
 
+use label::FIRST_CUSTOM_KIND;
 use label::Label;
 use place::Owner;
 use place::Place;
@@ -89,4 +90,19 @@ pub fn led_group<L: Layout>(layout: &L, sector: u64) -> Option<u64>
     } else {
         None
     }
+}
+
+// Whether the layout's label says what the layout is: a known kind, a zero reserved byte, and its own members, copies and depth.
+pub fn has_true_label<L: Layout>(layout: &L) -> bool {
+    let label = layout.label();
+    let known = match label.kind {
+        1..=4 => label.chunk >= 1 && label.chunk <= 2048,
+        FIRST_CUSTOM_KIND.. => true,
+        _ => false,
+    };
+    known
+        && label.reserved == 0
+        && u64::from(label.members) == layout.members()
+        && u64::from(label.copies) == layout.copies()
+        && label.depth == layout.depth()
 }

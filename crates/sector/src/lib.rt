@@ -2,6 +2,7 @@
 ghost use mathlib.Core.Path.{_≡_};
 ghost use Prim.Native.Nat.{ℕ, _<_};
 ghost use lib.ListN.{getD, length, replicate};
+ghost use Rattle.std.specs.Options.{Cases};
 ghost use Rattle.sector.specs.Folds.{folded};
 
 // bytes in a sector
@@ -25,4 +26,16 @@ pub fn fold(written: &mut Sector, read: &Sector)
     for (i, byte) in read.iter().enumerate() {
         written[i] ^= *byte;
     }
+}
+
+// The sector that a buffer holds, if it has a sector's length.
+pub fn copied(buffer: &[u8]) -> Option<Sector>
+    ensures { λ r. ⌜ Cases r (length (now (buffer .entry)) ≡ 512 → ⊥) (λ s. s ≡ now (buffer .entry)) ⌝ }
+{
+    if buffer.len() != SECTOR {
+        return None;
+    }
+    let mut sector = zeros();
+    sector.copy_from_slice(buffer);
+    Some(sector)
 }
