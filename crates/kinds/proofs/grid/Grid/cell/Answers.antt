@@ -1,0 +1,10 @@
+use mathlib.Core.Path.{ap}
+use Prim.Native.Nat.{_+_, _*_}
+use Rattle.kinds.proofs.Cells.{cell-below}
+use Rattle.kinds.proofs.grid.Grid.cell.Needs as need
+
+pub returns : need.returns
+returns c =
+    let g = c .args .self .now in
+    let row = c .in-Continue-row .ensures tt in
+    (ap (λ q. q * g .members + c .args .place .0) (row .0), cell-below (c .in-Continue-row .row) (g .members) (c .args .place .0) (g .chunks) (row .1) (row .2 .0), row .2)

@@ -1,0 +1,4 @@
+pub mod Formulas
+pub mod Limits
+pub mod Places
+pub mod Stocks
