@@ -19,6 +19,7 @@ fold-next i (x ∷ xs) [] h k = absurd (omega arith)
 fold-next zero (x ∷ xs) (y ∷ ys) h k = ap (λ t. bitXor x y ∷ t) (sym (fold-none xs))
 fold-next (suc i) (x ∷ xs) (y ∷ ys) h k = ap (λ t. bitXor x y ∷ t) (fold-next i xs ys (omega arith) (omega arith))
 
-pub fold-more : (i : ℕ) (w r : List ℕ) → i < length w → i < length r
-    → set (folded w (take i r)) i (bitXor (getD (folded w (take i r)) i 0) (getD r i 0)) ≡ folded w (take (i + 1) r)
-fold-more i w r h k = rw add-one (fold-next i w r h k)
+-- one turn of the loop: w is folded up to i, and b is what byte i becomes
+pub fold-more : (i b : ℕ) (w old r : List ℕ) → w ≡ folded old (take i r) → b ≡ bitXor (getD w i 0) (getD r i 0)
+  → i < length old → i < length r → set w i b ≡ folded old (take (i + 1) r)
+fold-more i b w old r e f h k = rw (e, f, e, add-one) (fold-next i old r h k)

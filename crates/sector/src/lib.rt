@@ -1,7 +1,7 @@
 // The sector: the 512 bytes that a shelf reads and writes at once.
 ghost use mathlib.Core.Path.{_≡_};
-ghost use Prim.Native.Nat.{ℕ, _<_};
-ghost use lib.ListN.{getD, length, replicate};
+ghost use lib.Bits.{bitXor};
+ghost use lib.ListN.{length, replicate};
 ghost use Rattle.std.specs.Options.{Cases};
 ghost use Rattle.sector.specs.Folds.{folded};
 
@@ -24,8 +24,15 @@ pub fn fold(written: &mut Sector, read: &Sector)
     ensures { λ _. ⌜ now (written .exit) ≡ folded (now (written .entry)) (now (read .entry)) ⌝ }
 {
     for (i, byte) in read.iter().enumerate() {
-        written[i] ^= *byte;
+        written[i] = fold_byte(written[i], *byte);
     }
+}
+
+// One byte of a fold.
+fn fold_byte(written: u8, read: u8) -> u8
+    ensures { λ r. ⌜ r ≡ bitXor written read ⌝ }
+{
+    written ^ read
 }
 
 // The sector that a buffer holds, if it has a sector's length.

@@ -12,7 +12,9 @@ pub loop-i-holds : need.loop-i-holds
 loop-i-holds c = sym (fold-none (c .args .written .now))
 
 pub loop-i-again : need.loop-i-again
-loop-i-again c = rw (c .loop-i .inv) (fold-more (c .loop-i .i) (c .args .written .now) (c .args .read .now) (omega arith) (omega arith))
+loop-i-again c =
+    fold-more (c .loop-i .i) (c .fold-byte .result) (c .loop-i .written) (c .args .written .now) (c .args .read .now)
+    (c .loop-i .inv) (c .fold-byte .ensures) (omega arith) (omega arith)
 
 pub returns : need.returns
 returns c = c .loop-i .inv ∙ ap (folded (c .args .written .now)) (take-all (c .loop-i .i) (c .args .read .now) (omega arith))
