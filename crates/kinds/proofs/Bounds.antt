@@ -1,8 +1,8 @@
 -- What the limits of a grid say of places, chunks and sectors.
 use Prim.Native.Nat.{ℕ, _+_, _*_, _/_, _%_, _≤_, _<_}
-use native.Mathlib.Nat.{mul-comm, mul-assoc, mul-right-comm}
+use native.Mathlib.Nat.{mul-comm, mul-assoc, mul-right-comm, div-mul-le-self}
 use native.Mathlib.Omega.{arith}
-use Rattle.std.proofs.shelf.Bits.{mul-le, div-below, mod-below}
+use Rattle.std.proofs.shelf.Bits.{mul-le, le-div, div-below, mod-below}
 use Rattle.kinds.proofs.Cells.{cell-below, chunk-below, product-least}
 use Rattle.kinds.specs.declared.grid.Grid.{Grid}
 
@@ -41,3 +41,10 @@ rows-most g q w k =
 pub sector-most : (g : Grid) (k o : ℕ) → k < g .chunks * g .members → k * g .chunk + o % g .chunk < 268435456
 sector-most g k o h =
     omega (arith, grid-most g, cell-below k (g .chunk) (o % g .chunk) (g .chunks * g .members) h (mod-below o (g .chunk) (omega arith)))
+
+-- the rows of near copies: as often as f cells make a chunk
+pub near-rows : (g : Grid) (f : ℕ) → 1 ≤ f → f ≤ g .members → (1 ≤ g .chunks * g .members / f) × (g .chunks * g .members / f ≤ g .chunks * g .members)
+near-rows g f a b = (
+  le-div 1 (g .chunks * g .members) f (omega arith) (omega (arith, mul-le 1 (g .members) (g .chunks) (g .members) (omega arith) (omega arith))),
+  omega (arith, div-mul-le-self (g .chunks * g .members) f, mul-le (g .chunks * g .members / f) 1 (g .chunks * g .members / f) f (omega arith) (omega arith)),
+)

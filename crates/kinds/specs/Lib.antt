@@ -1,4 +1,6 @@
-pub mod Formulas
+pub mod Cells
+pub mod Chunked
+pub mod Grids
+pub mod Labels
 pub mod Limits
-pub mod Places
 pub mod Stocks

@@ -1,16 +1,21 @@
--- What any stock layout answers, kind by kind, and the labels that name one.
+-- The stock layouts: the label of each, the labels within the limits, and what each places where.
 use mathlib.Core.Path.{_≡_}
+use mathlib.Core.Bool.{cond}
 use mathlib.Core.Logic.{_⊎_}
-use Prim.Native.Nat.{ℕ, _-_, _*_, _/_, _≤_}
-use Rattle.std.specs.declared.option.Option.{Option}
-use Rattle.std.specs.declared.option.Option.the-variants.{None}
+use Prim.Native.Nat.{ℕ, _*_, _/_, _≤_}
+use lib.Dec.{eqb}
 use Rattle.layout.specs.declared.label.Label.{Label}
-use Rattle.layout.specs.declared.place.Owner.{Owner}
+use Rattle.layout.specs.Geometry.{Geometry}
+use Rattle.kinds.specs.Cells.{stripedCells, leftCells, nearCells, farCells}
+use Rattle.kinds.specs.Chunked.{chunked}
+use Rattle.kinds.specs.Labels.{labelled}
 use Rattle.kinds.specs.Limits.{Copied, Gridded}
-use Rattle.kinds.specs.Places.{gridLabel, nearRows, zoneRows, StripedPlace, StripedOwner, LeftPlace, LeftGroup, LeftPeers, LeftPeer, LeftParity, LeftOwner, NearPlace, NearOwner, FarPlace, FarOwner}
 use Rattle.kinds.specs.declared.grid.Grid.{Grid}
 use Rattle.kinds.specs.declared.stock.Stock.{Stock}
 use Rattle.kinds.specs.declared.stock.Stock.the-variants.{Striped, LeftSymmetric, Near, Far}
+
+abbrev pub gridLabel : ℕ → ℕ → Grid → Label
+gridLabel k f g = labelled k f (g .members) (g .chunk) (g .chunks)
 
 abbrev pub labelOf : Stock → Label
 labelOf (Striped s) = gridLabel 1 1 (s .grid)
@@ -32,68 +37,19 @@ pub record Stocked (l : Label) : Type 0 where
   pub gridded : Gridded (l .members) (l .chunk) (l .depth)
   pub kinded : Kinded l
 
-abbrev pub gridOf : Stock → Grid
-gridOf (Striped s) = s .grid
-gridOf (LeftSymmetric s) = s .grid
-gridOf (Near s) = s .grid
-gridOf (Far s) = s .grid
+-- what a stock layout places where
+abbrev pub geometryOf : Stock → Geometry
+geometryOf (Striped s) = chunked (s .grid .chunk) (stripedCells (s .grid .members) (s .grid .chunks))
+geometryOf (LeftSymmetric s) = chunked (s .grid .chunk) (leftCells (s .grid .members) (s .grid .chunks))
+geometryOf (Near s) = chunked (s .grid .chunk) (nearCells (s .grid .members) (s .grid .chunks) (s .copies))
+geometryOf (Far s) = chunked (s .grid .chunk) (farCells (s .grid .members) (s .grid .chunks) (s .copies))
 
-abbrev pub copiesOf : Stock → ℕ
-copiesOf (Striped s) = 1
-copiesOf (LeftSymmetric s) = 1
-copiesOf (Near s) = s .copies
-copiesOf (Far s) = s .copies
+-- the same, from the label alone
+abbrev pub cellsNamed : Label → ℕ → Geometry
+cellsNamed l h =
+    cond (eqb (l .kind) 1) (stripedCells (l .members) h)
+    (cond (eqb (l .kind) 2) (leftCells (l .members) h)
+    (cond (eqb (l .kind) 3) (nearCells (l .members) h (l .copies)) (farCells (l .members) h (l .copies))))
 
-abbrev pub lossOf : Stock → ℕ
-lossOf (Striped s) = 0
-lossOf (LeftSymmetric s) = 1
-lossOf (Near s) = s .copies - 1
-lossOf (Far s) = s .copies - 1
-
-abbrev pub rowLenOf : Stock → ℕ
-rowLenOf (Striped s) = s .grid .chunk * s .grid .members
-rowLenOf (LeftSymmetric s) = s .grid .chunk * (s .grid .members - 1)
-rowLenOf (Near s) = s .grid .chunk
-rowLenOf (Far s) = s .grid .chunk * s .grid .members
-
-abbrev pub rowsOf : Stock → ℕ
-rowsOf (Striped s) = s .grid .chunks
-rowsOf (LeftSymmetric s) = s .grid .chunks
-rowsOf (Near s) = nearRows (s .grid) (s .copies)
-rowsOf (Far s) = zoneRows (s .grid) (s .copies)
-
-abbrev pub PlaceOf : Stock → ℕ → ℕ → ℕ × ℕ → Type 0
-PlaceOf (Striped s) i j r = StripedPlace (s .grid) i j r
-PlaceOf (LeftSymmetric s) i j r = LeftPlace (s .grid) i j r
-PlaceOf (Near s) i j r = NearPlace (s .grid) (s .copies) i j r
-PlaceOf (Far s) i j r = FarPlace (s .grid) (s .copies) i j r
-
-abbrev pub GroupOf : Stock → ℕ → Option ℕ → Type 0
-GroupOf (Striped s) i r = r ≡ None
-GroupOf (LeftSymmetric s) i r = LeftGroup (s .grid) i r
-GroupOf (Near s) i r = r ≡ None
-GroupOf (Far s) i r = r ≡ None
-
-abbrev pub PeersOf : Stock → ℕ → ℕ → Type 0
-PeersOf (Striped s) x r = r ≡ 0
-PeersOf (LeftSymmetric s) x r = LeftPeers (s .grid) x r
-PeersOf (Near s) x r = r ≡ 0
-PeersOf (Far s) x r = r ≡ 0
-
-abbrev pub PeerOf : Stock → ℕ → ℕ → ℕ → Type 0
-PeerOf (Striped s) x a r = r ≡ 0
-PeerOf (LeftSymmetric s) x a r = LeftPeer (s .grid) x a r
-PeerOf (Near s) x a r = r ≡ 0
-PeerOf (Far s) x a r = r ≡ 0
-
-abbrev pub ParityOf : Stock → ℕ → ℕ × ℕ → Type 0
-ParityOf (Striped s) x r = r ≡ (0, 0)
-ParityOf (LeftSymmetric s) x r = LeftParity (s .grid) x r
-ParityOf (Near s) x r = r ≡ (0, 0)
-ParityOf (Far s) x r = r ≡ (0, 0)
-
-abbrev pub OwnerOf : Stock → ℕ × ℕ → Owner → Type 0
-OwnerOf (Striped s) p r = StripedOwner (s .grid) p r
-OwnerOf (LeftSymmetric s) p r = LeftOwner (s .grid) p r
-OwnerOf (Near s) p r = NearOwner (s .grid) (s .copies) p r
-OwnerOf (Far s) p r = FarOwner (s .grid) (s .copies) p r
+abbrev pub geometryNamed : Label → Geometry
+geometryNamed l = chunked (l .chunk) (cellsNamed l (l .depth / l .chunk))

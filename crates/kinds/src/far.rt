@@ -3,9 +3,10 @@ ghost use mathlib.Core.Path.{_≡_};
 ghost use Prim.Native.Nat.{_-_, _*_, _/_, _<_, _≤_};
 ghost use Rattle.std.specs.Options.{Cases};
 ghost use Rattle.std.specs.declared.option.Option.the-variants.{None};
-ghost use Rattle.layout.specs.Limits.{Inside, Owned, Rowed};
 ghost use Rattle.kinds.specs.Limits.{Copied, Gridded, Measured};
-ghost use Rattle.kinds.specs.Places.{FarOwner, FarPlace, depthOf, farRoom, gridLabel, zoneRows};
+ghost use Rattle.kinds.specs.Cells.{farCells};
+ghost use Rattle.kinds.specs.Chunked.{chunked};
+ghost use Rattle.kinds.specs.Labels.{labelled};
 use crate::grid::Grid;
 use crate::grid::GridDebug;
 use crate::grid::GridPartialEq;
@@ -40,7 +41,7 @@ impl Far {
 
     // The rows of chunks in a zone.
     fn zone(&self) -> u64
-        ensures value { λ r. ⌜ r ≡ zoneRows (now (self .entry) .grid) (now (self .entry) .copies) ⌝ }
+        ensures value { λ r. ⌜ r ≡ now (self .entry) .grid .chunks / now (self .entry) .copies ⌝ }
         ensures bound { λ r. ⌜ 1 ≤ r ⌝ ∗ ⌜ r ≤ now (self .entry) .grid .chunks ⌝ ∗ ⌜ now (self .entry) .copies * r ≤ now (self .entry) .grid .chunks ⌝ }
     {
         self.grid.chunks / self.copies
@@ -48,65 +49,43 @@ impl Far {
 }
 
 pub impl Layout for Far as FarLayout {
-    fn label(&self) -> Label
-        ensures { λ r. ⌜ r ≡ gridLabel 4 (now (self .entry) .copies) (now (self .entry) .grid) ⌝ }
-    {
+    ghost geometry = { λ s. chunked (s .grid .chunk) (farCells (s .grid .members) (s .grid .chunks) (s .copies)) };
+
+    ghost named = { λ s. labelled 4 (s .copies) (s .grid .members) (s .grid .chunk) (s .grid .chunks) };
+
+    fn label(&self) -> Label {
         self.grid.label(FAR_KIND, self.copies as u8)
     }
 
-    fn members(&self) -> u64
-        ensures bound { λ r. ⌜ 2 ≤ r ⌝ ∗ ⌜ r ≤ 16 ⌝ }
-        ensures value { λ r. ⌜ r ≡ now (self .entry) .grid .members ⌝ }
-    {
+    fn members(&self) -> u64 {
         self.grid.members
     }
 
-    fn depth(&self) -> u64
-        ensures bound { λ r. ⌜ 1 ≤ r ⌝ ∗ ⌜ r ≤ 16777216 ⌝ }
-        ensures value { λ r. ⌜ r ≡ depthOf (now (self .entry) .grid) ⌝ }
-    {
+    fn depth(&self) -> u64 {
         self.grid.depth()
     }
 
-    fn copies(&self) -> u64
-        ensures bound { λ r. ⌜ 1 ≤ r ⌝ ∗ ⌜ r ≤ 16 ⌝ }
-        ensures value { λ r. ⌜ r ≡ now (self .entry) .copies ⌝ }
-    {
+    fn copies(&self) -> u64 {
         self.copies
     }
 
-    fn loss(&self) -> u64
-        ensures bound { λ r. ⌜ r ≤ 16 ⌝ }
-        ensures value { λ r. ⌜ r ≡ now (self .entry) .copies - 1 ⌝ }
-    {
+    fn loss(&self) -> u64 {
         self.copies - 1
     }
 
-    fn row_len(&self) -> u64
-        ensures bound { λ r. ⌜ Rowed r ⌝ }
-        ensures value { λ r. ⌜ r ≡ now (self .entry) .grid .chunk * now (self .entry) .grid .members ⌝ }
-    {
+    fn row_len(&self) -> u64 {
         self.grid.row_len(self.grid.members)
     }
 
-    fn rows(&self) -> u64
-        ensures bound { λ r. ⌜ Rowed r ⌝ }
-        ensures value { λ r. ⌜ r ≡ zoneRows (now (self .entry) .grid) (now (self .entry) .copies) ⌝ }
-    {
+    fn rows(&self) -> u64 {
         self.zone()
     }
 
-    fn capacity(&self) -> u64
-        ensures bound { λ r. ⌜ Rowed r ⌝ }
-        ensures value { λ r. ⌜ r ≡ farRoom (now (self .entry) .grid) (now (self .entry) .copies) ⌝ }
-    {
+    fn capacity(&self) -> u64 {
         self.grid.capacity(self.zone(), self.grid.members)
     }
 
-    fn place(&self, sector: u64, copy: u64) -> Place
-        ensures bound { λ r. ⌜ Inside r ⌝ }
-        ensures value { λ r. ⌜ FarPlace (now (self .entry) .grid) (now (self .entry) .copies) sector copy r ⌝ }
-    {
+    fn place(&self, sector: u64, copy: u64) -> Place {
         if sector >= self.capacity() || copy >= self.copies {
             return NOWHERE;
         }
@@ -116,38 +95,23 @@ pub impl Layout for Far as FarLayout {
             .place((number + copy) % self.grid.members, row, sector)
     }
 
-    fn group(&self, _sector: u64) -> Option<u64>
-        ensures bound { λ r. ⌜ Cases r (Unit {0}) (λ g. g < 268435456) ⌝ }
-        ensures value { λ r. ⌜ r ≡ None ⌝ }
-    {
+    fn group(&self, _sector: u64) -> Option<u64> {
         None
     }
 
-    fn peers(&self, _group: u64) -> u64
-        ensures bound { λ r. ⌜ r ≤ 16 ⌝ }
-        ensures value { λ r. ⌜ r ≡ 0 ⌝ }
-    {
+    fn peers(&self, _group: u64) -> u64 {
         0
     }
 
-    fn peer(&self, _group: u64, _index: u64) -> u64
-        ensures bound { λ r. ⌜ r < 268435456 ⌝ }
-        ensures value { λ r. ⌜ r ≡ 0 ⌝ }
-    {
+    fn peer(&self, _group: u64, _index: u64) -> u64 {
         0
     }
 
-    fn parity(&self, _group: u64) -> Place
-        ensures bound { λ r. ⌜ Inside r ⌝ }
-        ensures value { λ r. ⌜ r ≡ (0, 0) ⌝ }
-    {
+    fn parity(&self, _group: u64) -> Place {
         NOWHERE
     }
 
-    fn owner(&self, place: Place) -> Owner
-        ensures bound { λ r. ⌜ Owned r ⌝ }
-        ensures value { λ r. ⌜ FarOwner (now (self .entry) .grid) (now (self .entry) .copies) place r ⌝ }
-    {
+    fn owner(&self, place: Place) -> Owner {
         let Some(row) = self.grid.row(place) else {
             return Owner::Nobody;
         };

@@ -1,10 +1,11 @@
 // The grid under every stock layout: a column of chunks for each member.
 ghost use mathlib.Core.Path.{_≡_};
-ghost use Prim.Native.Nat.{_*_, _<_, _≤_};
+ghost use Prim.Native.Nat.{_*_, _/_, _%_, _<_, _≤_};
 ghost use Rattle.std.specs.Options.{Cases};
 ghost use Rattle.std.specs.Orderings.{Decides};
-ghost use Rattle.layout.specs.Limits.{Inside, Rowed};
-ghost use Rattle.kinds.specs.Formulas.{CellAt, RowAt, dealt, labelled, spot, within};
+ghost use Rattle.kinds.specs.Chunked.{inCell, inChunk};
+ghost use Rattle.kinds.specs.Grids.{CellAt, RowAt};
+ghost use Rattle.kinds.specs.Labels.{labelled};
 ghost use Rattle.kinds.specs.Limits.{Copied, Gridded, Measured};
 use layout::MOST_DEPTH;
 use layout::MOST_MEMBERS;
@@ -93,7 +94,7 @@ impl Grid {
     pub(crate) fn row_len(&self, columns: u64) -> u64
         requires { ⌜ 1 ≤ columns ⌝ ∗ ⌜ columns ≤ now self .members ⌝ }
         ensures value { λ r. ⌜ r ≡ now (self .entry) .chunk * columns ⌝ }
-        ensures bound { λ r. ⌜ Rowed r ⌝ }
+        ensures bound { λ r. ⌜ 1 ≤ r ⌝ ∗ ⌜ r ≤ 268435456 ⌝ }
     {
         self.chunk * columns
     }
@@ -102,7 +103,7 @@ impl Grid {
     pub(crate) fn capacity(&self, rows: u64, columns: u64) -> u64
         requires { ⌜ 1 ≤ rows ⌝ ∗ ⌜ 1 ≤ columns ⌝ ∗ ⌜ columns ≤ now self .members ⌝ ∗ ⌜ rows * columns ≤ now self .chunks * now self .members ⌝ }
         ensures value { λ r. ⌜ r ≡ rows * (now (self .entry) .chunk * columns) ⌝ }
-        ensures bound { λ r. ⌜ Rowed r ⌝ }
+        ensures bound { λ r. ⌜ 1 ≤ r ⌝ ∗ ⌜ r ≤ 268435456 ⌝ }
     {
         rows * self.row_len(columns)
     }
@@ -110,8 +111,7 @@ impl Grid {
     // The place of a sector whose chunk lies on the member in the row.
     pub(crate) fn place(&self, member: u64, row: u64, sector: u64) -> Place
         requires { ⌜ member < now self .members ⌝ ∗ ⌜ row < now self .chunks ⌝ }
-        ensures value { λ r. ⌜ r ≡ spot (now (self .entry) .chunk) member row sector ⌝ }
-        ensures bound { λ r. ⌜ Inside r ⌝ }
+        ensures { λ r. ⌜ r ≡ inCell (now (self .entry) .chunk) (member, row) sector ⌝ }
     {
         (member, row * self.chunk + sector % self.chunk)
     }
@@ -119,8 +119,7 @@ impl Grid {
     // The place of a sector whose chunk lies in a cell; the cells go round the members.
     pub(crate) fn deal(&self, cell: u64, sector: u64) -> Place
         requires { ⌜ cell < now self .chunks * now self .members ⌝ }
-        ensures value { λ r. ⌜ r ≡ dealt (now (self .entry) .members) (now (self .entry) .chunk) cell sector ⌝ }
-        ensures bound { λ r. ⌜ Inside r ⌝ }
+        ensures { λ r. ⌜ r ≡ inCell (now (self .entry) .chunk) (cell % now (self .entry) .members, cell / now (self .entry) .members) sector ⌝ }
     {
         self.place(cell % self.members, cell / self.members, sector)
     }
@@ -129,8 +128,9 @@ impl Grid {
     pub(crate) fn row(&self, place: Place) -> Option<u64>
         ensures { λ r. ⌜ RowAt (now (self .entry) .members) (now (self .entry) .chunk) (now (self .entry) .chunks) place r ⌝ }
     {
-        if place.0 < self.members && place.1 < self.depth() {
-            Some(place.1 / self.chunk)
+        let row = place.1 / self.chunk;
+        if place.0 < self.members && row < self.chunks {
+            Some(row)
         } else {
             None
         }
@@ -147,7 +147,7 @@ impl Grid {
     // The sector of a chunk at an offset.
     pub(crate) fn sector(&self, number: u64, offset: u64) -> u64
         requires { ⌜ number < now self .chunks * now self .members ⌝ }
-        ensures value { λ r. ⌜ r ≡ within (now (self .entry) .chunk) number offset ⌝ }
+        ensures value { λ r. ⌜ r ≡ inChunk (now (self .entry) .chunk) number (offset % now (self .entry) .chunk) ⌝ }
         ensures bound { λ r. ⌜ r < 268435456 ⌝ }
     {
         number * self.chunk + offset % self.chunk

@@ -3,9 +3,10 @@
 ghost use mathlib.Core.Path.{_≡_};
 ghost use Prim.Native.Nat.{_-_, _*_, _<_, _≤_};
 ghost use Rattle.std.specs.Options.{Cases};
-ghost use Rattle.layout.specs.Limits.{Inside, Owned, Rowed};
 ghost use Rattle.kinds.specs.Limits.{Gridded, Measured};
-ghost use Rattle.kinds.specs.Places.{LeftGroup, LeftOwner, LeftParity, LeftPeer, LeftPeers, LeftPlace, depthOf, gridLabel, leftRoom, parityMember};
+ghost use Rattle.kinds.specs.Cells.{leftCells, parityMember};
+ghost use Rattle.kinds.specs.Chunked.{chunked};
+ghost use Rattle.kinds.specs.Labels.{labelled};
 use crate::grid::Grid;
 use crate::grid::GridDebug;
 use crate::grid::GridPartialEq;
@@ -45,7 +46,7 @@ impl LeftSymmetric {
 
     // The member with the parity of a row of chunks.
     fn parity_member(&self, row: u64) -> u64
-        ensures value { λ r. ⌜ r ≡ parityMember (now (self .entry) .grid) row ⌝ }
+        ensures value { λ r. ⌜ r ≡ parityMember (now (self .entry) .grid .members) row ⌝ }
         ensures bound { λ r. ⌜ r < now (self .entry) .grid .members ⌝ }
     {
         self.grid.members - 1 - row % self.grid.members
@@ -53,65 +54,43 @@ impl LeftSymmetric {
 }
 
 pub impl Layout for LeftSymmetric as LeftSymmetricLayout {
-    fn label(&self) -> Label
-        ensures { λ r. ⌜ r ≡ gridLabel 2 1 (now (self .entry) .grid) ⌝ }
-    {
+    ghost geometry = { λ s. chunked (s .grid .chunk) (leftCells (s .grid .members) (s .grid .chunks)) };
+
+    ghost named = { λ s. labelled 2 1 (s .grid .members) (s .grid .chunk) (s .grid .chunks) };
+
+    fn label(&self) -> Label {
         self.grid.label(LEFT_SYMMETRIC_KIND, 1)
     }
 
-    fn members(&self) -> u64
-        ensures bound { λ r. ⌜ 2 ≤ r ⌝ ∗ ⌜ r ≤ 16 ⌝ }
-        ensures value { λ r. ⌜ r ≡ now (self .entry) .grid .members ⌝ }
-    {
+    fn members(&self) -> u64 {
         self.grid.members
     }
 
-    fn depth(&self) -> u64
-        ensures bound { λ r. ⌜ 1 ≤ r ⌝ ∗ ⌜ r ≤ 16777216 ⌝ }
-        ensures value { λ r. ⌜ r ≡ depthOf (now (self .entry) .grid) ⌝ }
-    {
+    fn depth(&self) -> u64 {
         self.grid.depth()
     }
 
-    fn copies(&self) -> u64
-        ensures bound { λ r. ⌜ 1 ≤ r ⌝ ∗ ⌜ r ≤ 16 ⌝ }
-        ensures value { λ r. ⌜ r ≡ 1 ⌝ }
-    {
+    fn copies(&self) -> u64 {
         1
     }
 
-    fn loss(&self) -> u64
-        ensures bound { λ r. ⌜ r ≤ 16 ⌝ }
-        ensures value { λ r. ⌜ r ≡ 1 ⌝ }
-    {
+    fn loss(&self) -> u64 {
         1
     }
 
-    fn row_len(&self) -> u64
-        ensures bound { λ r. ⌜ Rowed r ⌝ }
-        ensures value { λ r. ⌜ r ≡ now (self .entry) .grid .chunk * (now (self .entry) .grid .members - 1) ⌝ }
-    {
+    fn row_len(&self) -> u64 {
         self.grid.row_len(self.data())
     }
 
-    fn rows(&self) -> u64
-        ensures bound { λ r. ⌜ Rowed r ⌝ }
-        ensures value { λ r. ⌜ r ≡ now (self .entry) .grid .chunks ⌝ }
-    {
+    fn rows(&self) -> u64 {
         self.grid.chunks
     }
 
-    fn capacity(&self) -> u64
-        ensures bound { λ r. ⌜ Rowed r ⌝ }
-        ensures value { λ r. ⌜ r ≡ leftRoom (now (self .entry) .grid) ⌝ }
-    {
+    fn capacity(&self) -> u64 {
         self.grid.capacity(self.grid.chunks, self.data())
     }
 
-    fn place(&self, sector: u64, copy: u64) -> Place
-        ensures bound { λ r. ⌜ Inside r ⌝ }
-        ensures value { λ r. ⌜ LeftPlace (now (self .entry) .grid) sector copy r ⌝ }
-    {
+    fn place(&self, sector: u64, copy: u64) -> Place {
         if sector >= self.capacity() || copy >= 1 {
             return NOWHERE;
         }
@@ -123,10 +102,7 @@ pub impl Layout for LeftSymmetric as LeftSymmetricLayout {
     }
 
     // The group has the number of the offset that its peers and its parity share.
-    fn group(&self, sector: u64) -> Option<u64>
-        ensures bound { λ r. ⌜ Cases r (Unit {0}) (λ g. g < 268435456) ⌝ }
-        ensures value { λ r. ⌜ LeftGroup (now (self .entry) .grid) sector r ⌝ }
-    {
+    fn group(&self, sector: u64) -> Option<u64> {
         if sector >= self.capacity() {
             return None;
         }
@@ -134,10 +110,7 @@ pub impl Layout for LeftSymmetric as LeftSymmetricLayout {
         Some(self.grid.place(0, row, sector).1)
     }
 
-    fn peers(&self, group: u64) -> u64
-        ensures bound { λ r. ⌜ r ≤ 16 ⌝ }
-        ensures value { λ r. ⌜ LeftPeers (now (self .entry) .grid) group r ⌝ }
-    {
+    fn peers(&self, group: u64) -> u64 {
         if group < self.grid.depth() {
             self.data()
         } else {
@@ -145,10 +118,7 @@ pub impl Layout for LeftSymmetric as LeftSymmetricLayout {
         }
     }
 
-    fn peer(&self, group: u64, index: u64) -> u64
-        ensures bound { λ r. ⌜ r < 268435456 ⌝ }
-        ensures value { λ r. ⌜ LeftPeer (now (self .entry) .grid) group index r ⌝ }
-    {
+    fn peer(&self, group: u64, index: u64) -> u64 {
         let data = self.data();
         if group >= self.grid.depth() || index >= data {
             return 0;
@@ -157,20 +127,14 @@ pub impl Layout for LeftSymmetric as LeftSymmetricLayout {
         self.grid.sector(number, group)
     }
 
-    fn parity(&self, group: u64) -> Place
-        ensures bound { λ r. ⌜ Inside r ⌝ }
-        ensures value { λ r. ⌜ LeftParity (now (self .entry) .grid) group r ⌝ }
-    {
+    fn parity(&self, group: u64) -> Place {
         if group >= self.grid.depth() {
             return NOWHERE;
         }
         (self.parity_member(group / self.grid.chunk), group)
     }
 
-    fn owner(&self, place: Place) -> Owner
-        ensures bound { λ r. ⌜ Owned r ⌝ }
-        ensures value { λ r. ⌜ LeftOwner (now (self .entry) .grid) place r ⌝ }
-    {
+    fn owner(&self, place: Place) -> Owner {
         let Some(row) = self.grid.row(place) else {
             return Owner::Nobody;
         };

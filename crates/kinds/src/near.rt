@@ -3,9 +3,10 @@ ghost use mathlib.Core.Path.{_≡_};
 ghost use Prim.Native.Nat.{_-_, _<_, _≤_};
 ghost use Rattle.std.specs.Options.{Cases};
 ghost use Rattle.std.specs.declared.option.Option.the-variants.{None};
-ghost use Rattle.layout.specs.Limits.{Inside, Owned, Rowed};
 ghost use Rattle.kinds.specs.Limits.{Copied, Gridded, Measured};
-ghost use Rattle.kinds.specs.Places.{NearOwner, NearPlace, depthOf, gridLabel, nearRoom, nearRows};
+ghost use Rattle.kinds.specs.Cells.{nearCells};
+ghost use Rattle.kinds.specs.Chunked.{chunked};
+ghost use Rattle.kinds.specs.Labels.{labelled};
 use crate::grid::Grid;
 use crate::grid::GridDebug;
 use crate::grid::GridPartialEq;
@@ -39,66 +40,44 @@ impl Near {
 }
 
 pub impl Layout for Near as NearLayout {
-    fn label(&self) -> Label
-        ensures { λ r. ⌜ r ≡ gridLabel 3 (now (self .entry) .copies) (now (self .entry) .grid) ⌝ }
-    {
+    ghost geometry = { λ s. chunked (s .grid .chunk) (nearCells (s .grid .members) (s .grid .chunks) (s .copies)) };
+
+    ghost named = { λ s. labelled 3 (s .copies) (s .grid .members) (s .grid .chunk) (s .grid .chunks) };
+
+    fn label(&self) -> Label {
         self.grid.label(NEAR_KIND, self.copies as u8)
     }
 
-    fn members(&self) -> u64
-        ensures bound { λ r. ⌜ 2 ≤ r ⌝ ∗ ⌜ r ≤ 16 ⌝ }
-        ensures value { λ r. ⌜ r ≡ now (self .entry) .grid .members ⌝ }
-    {
+    fn members(&self) -> u64 {
         self.grid.members
     }
 
-    fn depth(&self) -> u64
-        ensures bound { λ r. ⌜ 1 ≤ r ⌝ ∗ ⌜ r ≤ 16777216 ⌝ }
-        ensures value { λ r. ⌜ r ≡ depthOf (now (self .entry) .grid) ⌝ }
-    {
+    fn depth(&self) -> u64 {
         self.grid.depth()
     }
 
-    fn copies(&self) -> u64
-        ensures bound { λ r. ⌜ 1 ≤ r ⌝ ∗ ⌜ r ≤ 16 ⌝ }
-        ensures value { λ r. ⌜ r ≡ now (self .entry) .copies ⌝ }
-    {
+    fn copies(&self) -> u64 {
         self.copies
     }
 
-    fn loss(&self) -> u64
-        ensures bound { λ r. ⌜ r ≤ 16 ⌝ }
-        ensures value { λ r. ⌜ r ≡ now (self .entry) .copies - 1 ⌝ }
-    {
+    fn loss(&self) -> u64 {
         self.copies - 1
     }
 
-    fn row_len(&self) -> u64
-        ensures bound { λ r. ⌜ Rowed r ⌝ }
-        ensures value { λ r. ⌜ r ≡ now (self .entry) .grid .chunk ⌝ }
-    {
+    fn row_len(&self) -> u64 {
         self.grid.chunk
     }
 
     // The cells of the last copies may be fewer than a chunk needs, and then lie idle.
-    fn rows(&self) -> u64
-        ensures bound { λ r. ⌜ Rowed r ⌝ }
-        ensures value { λ r. ⌜ r ≡ nearRows (now (self .entry) .grid) (now (self .entry) .copies) ⌝ }
-    {
+    fn rows(&self) -> u64 {
         self.grid.cells() / self.copies
     }
 
-    fn capacity(&self) -> u64
-        ensures bound { λ r. ⌜ Rowed r ⌝ }
-        ensures value { λ r. ⌜ r ≡ nearRoom (now (self .entry) .grid) (now (self .entry) .copies) ⌝ }
-    {
+    fn capacity(&self) -> u64 {
         self.grid.capacity(self.rows(), 1)
     }
 
-    fn place(&self, sector: u64, copy: u64) -> Place
-        ensures bound { λ r. ⌜ Inside r ⌝ }
-        ensures value { λ r. ⌜ NearPlace (now (self .entry) .grid) (now (self .entry) .copies) sector copy r ⌝ }
-    {
+    fn place(&self, sector: u64, copy: u64) -> Place {
         if sector >= self.capacity() || copy >= self.copies {
             return NOWHERE;
         }
@@ -106,38 +85,23 @@ pub impl Layout for Near as NearLayout {
         self.grid.deal(number * self.copies + copy, sector)
     }
 
-    fn group(&self, _sector: u64) -> Option<u64>
-        ensures bound { λ r. ⌜ Cases r (Unit {0}) (λ g. g < 268435456) ⌝ }
-        ensures value { λ r. ⌜ r ≡ None ⌝ }
-    {
+    fn group(&self, _sector: u64) -> Option<u64> {
         None
     }
 
-    fn peers(&self, _group: u64) -> u64
-        ensures bound { λ r. ⌜ r ≤ 16 ⌝ }
-        ensures value { λ r. ⌜ r ≡ 0 ⌝ }
-    {
+    fn peers(&self, _group: u64) -> u64 {
         0
     }
 
-    fn peer(&self, _group: u64, _index: u64) -> u64
-        ensures bound { λ r. ⌜ r < 268435456 ⌝ }
-        ensures value { λ r. ⌜ r ≡ 0 ⌝ }
-    {
+    fn peer(&self, _group: u64, _index: u64) -> u64 {
         0
     }
 
-    fn parity(&self, _group: u64) -> Place
-        ensures bound { λ r. ⌜ Inside r ⌝ }
-        ensures value { λ r. ⌜ r ≡ (0, 0) ⌝ }
-    {
+    fn parity(&self, _group: u64) -> Place {
         NOWHERE
     }
 
-    fn owner(&self, place: Place) -> Owner
-        ensures bound { λ r. ⌜ Owned r ⌝ }
-        ensures value { λ r. ⌜ NearOwner (now (self .entry) .grid) (now (self .entry) .copies) place r ⌝ }
-    {
+    fn owner(&self, place: Place) -> Owner {
         let Some(cell) = self.grid.cell(place) else {
             return Owner::Nobody;
         };

@@ -1,12 +1,9 @@
 // Any of the four stock layouts, as a label names it.
 ghost use mathlib.Core.Path.{_≡_};
-ghost use Prim.Native.Nat.{_*_, _<_, _≤_};
 ghost use Rattle.std.specs.Options.{Cases};
 ghost use Rattle.std.specs.Results.{Cases as ByOk};
 ghost use Rattle.answer.specs.declared.Refusal.the-variants.{OutOfLimits};
-ghost use Rattle.layout.specs.Limits.{Inside, Owned, Rowed};
-ghost use Rattle.kinds.specs.Places.{depthOf};
-ghost use Rattle.kinds.specs.Stocks.{GroupOf, OwnerOf, ParityOf, PeerOf, PeersOf, PlaceOf, Stocked, copiesOf, gridOf, labelOf, lossOf, rowLenOf, rowsOf};
+ghost use Rattle.kinds.specs.Stocks.{Stocked, geometryOf, labelOf};
 use crate::far::Far;
 use crate::far::FarDebug;
 use crate::far::FarLayout;
@@ -76,9 +73,11 @@ impl Stock {
 }
 
 pub impl Layout for Stock as StockLayout {
-    fn label(&self) -> Label
-        ensures { λ r. ⌜ r ≡ labelOf (now (self .entry)) ⌝ }
-    {
+    ghost geometry = { geometryOf };
+
+    ghost named = { labelOf };
+
+    fn label(&self) -> Label {
         match self {
             Stock::Striped(layout) => layout.label(),
             Stock::LeftSymmetric(layout) => layout.label(),
@@ -87,10 +86,7 @@ pub impl Layout for Stock as StockLayout {
         }
     }
 
-    fn members(&self) -> u64
-        ensures bound { λ r. ⌜ 2 ≤ r ⌝ ∗ ⌜ r ≤ 16 ⌝ }
-        ensures value { λ r. ⌜ r ≡ gridOf (now (self .entry)) .members ⌝ }
-    {
+    fn members(&self) -> u64 {
         match self {
             Stock::Striped(layout) => layout.members(),
             Stock::LeftSymmetric(layout) => layout.members(),
@@ -99,10 +95,7 @@ pub impl Layout for Stock as StockLayout {
         }
     }
 
-    fn depth(&self) -> u64
-        ensures bound { λ r. ⌜ 1 ≤ r ⌝ ∗ ⌜ r ≤ 16777216 ⌝ }
-        ensures value { λ r. ⌜ r ≡ depthOf (gridOf (now (self .entry))) ⌝ }
-    {
+    fn depth(&self) -> u64 {
         match self {
             Stock::Striped(layout) => layout.depth(),
             Stock::LeftSymmetric(layout) => layout.depth(),
@@ -111,10 +104,7 @@ pub impl Layout for Stock as StockLayout {
         }
     }
 
-    fn copies(&self) -> u64
-        ensures bound { λ r. ⌜ 1 ≤ r ⌝ ∗ ⌜ r ≤ 16 ⌝ }
-        ensures value { λ r. ⌜ r ≡ copiesOf (now (self .entry)) ⌝ }
-    {
+    fn copies(&self) -> u64 {
         match self {
             Stock::Striped(layout) => layout.copies(),
             Stock::LeftSymmetric(layout) => layout.copies(),
@@ -123,10 +113,7 @@ pub impl Layout for Stock as StockLayout {
         }
     }
 
-    fn loss(&self) -> u64
-        ensures bound { λ r. ⌜ r ≤ 16 ⌝ }
-        ensures value { λ r. ⌜ r ≡ lossOf (now (self .entry)) ⌝ }
-    {
+    fn loss(&self) -> u64 {
         match self {
             Stock::Striped(layout) => layout.loss(),
             Stock::LeftSymmetric(layout) => layout.loss(),
@@ -135,10 +122,7 @@ pub impl Layout for Stock as StockLayout {
         }
     }
 
-    fn row_len(&self) -> u64
-        ensures bound { λ r. ⌜ Rowed r ⌝ }
-        ensures value { λ r. ⌜ r ≡ rowLenOf (now (self .entry)) ⌝ }
-    {
+    fn row_len(&self) -> u64 {
         match self {
             Stock::Striped(layout) => layout.row_len(),
             Stock::LeftSymmetric(layout) => layout.row_len(),
@@ -147,10 +131,7 @@ pub impl Layout for Stock as StockLayout {
         }
     }
 
-    fn rows(&self) -> u64
-        ensures bound { λ r. ⌜ Rowed r ⌝ }
-        ensures value { λ r. ⌜ r ≡ rowsOf (now (self .entry)) ⌝ }
-    {
+    fn rows(&self) -> u64 {
         match self {
             Stock::Striped(layout) => layout.rows(),
             Stock::LeftSymmetric(layout) => layout.rows(),
@@ -159,10 +140,7 @@ pub impl Layout for Stock as StockLayout {
         }
     }
 
-    fn capacity(&self) -> u64
-        ensures bound { λ r. ⌜ Rowed r ⌝ }
-        ensures value { λ r. ⌜ r ≡ rowsOf (now (self .entry)) * rowLenOf (now (self .entry)) ⌝ }
-    {
+    fn capacity(&self) -> u64 {
         match self {
             Stock::Striped(layout) => layout.capacity(),
             Stock::LeftSymmetric(layout) => layout.capacity(),
@@ -171,10 +149,7 @@ pub impl Layout for Stock as StockLayout {
         }
     }
 
-    fn place(&self, sector: u64, copy: u64) -> Place
-        ensures bound { λ r. ⌜ Inside r ⌝ }
-        ensures value { λ r. ⌜ PlaceOf (now (self .entry)) sector copy r ⌝ }
-    {
+    fn place(&self, sector: u64, copy: u64) -> Place {
         match self {
             Stock::Striped(layout) => layout.place(sector, copy),
             Stock::LeftSymmetric(layout) => layout.place(sector, copy),
@@ -183,10 +158,7 @@ pub impl Layout for Stock as StockLayout {
         }
     }
 
-    fn group(&self, sector: u64) -> Option<u64>
-        ensures bound { λ r. ⌜ Cases r (Unit {0}) (λ g. g < 268435456) ⌝ }
-        ensures value { λ r. ⌜ GroupOf (now (self .entry)) sector r ⌝ }
-    {
+    fn group(&self, sector: u64) -> Option<u64> {
         match self {
             Stock::Striped(layout) => layout.group(sector),
             Stock::LeftSymmetric(layout) => layout.group(sector),
@@ -195,10 +167,7 @@ pub impl Layout for Stock as StockLayout {
         }
     }
 
-    fn peers(&self, group: u64) -> u64
-        ensures bound { λ r. ⌜ r ≤ 16 ⌝ }
-        ensures value { λ r. ⌜ PeersOf (now (self .entry)) group r ⌝ }
-    {
+    fn peers(&self, group: u64) -> u64 {
         match self {
             Stock::Striped(layout) => layout.peers(group),
             Stock::LeftSymmetric(layout) => layout.peers(group),
@@ -207,10 +176,7 @@ pub impl Layout for Stock as StockLayout {
         }
     }
 
-    fn peer(&self, group: u64, index: u64) -> u64
-        ensures bound { λ r. ⌜ r < 268435456 ⌝ }
-        ensures value { λ r. ⌜ PeerOf (now (self .entry)) group index r ⌝ }
-    {
+    fn peer(&self, group: u64, index: u64) -> u64 {
         match self {
             Stock::Striped(layout) => layout.peer(group, index),
             Stock::LeftSymmetric(layout) => layout.peer(group, index),
@@ -219,10 +185,7 @@ pub impl Layout for Stock as StockLayout {
         }
     }
 
-    fn parity(&self, group: u64) -> Place
-        ensures bound { λ r. ⌜ Inside r ⌝ }
-        ensures value { λ r. ⌜ ParityOf (now (self .entry)) group r ⌝ }
-    {
+    fn parity(&self, group: u64) -> Place {
         match self {
             Stock::Striped(layout) => layout.parity(group),
             Stock::LeftSymmetric(layout) => layout.parity(group),
@@ -231,10 +194,7 @@ pub impl Layout for Stock as StockLayout {
         }
     }
 
-    fn owner(&self, place: Place) -> Owner
-        ensures bound { λ r. ⌜ Owned r ⌝ }
-        ensures value { λ r. ⌜ OwnerOf (now (self .entry)) place r ⌝ }
-    {
+    fn owner(&self, place: Place) -> Owner {
         match self {
             Stock::Striped(layout) => layout.owner(place),
             Stock::LeftSymmetric(layout) => layout.owner(place),

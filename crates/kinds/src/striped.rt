@@ -3,9 +3,10 @@ ghost use mathlib.Core.Path.{_≡_};
 ghost use Prim.Native.Nat.{_*_, _<_, _≤_};
 ghost use Rattle.std.specs.Options.{Cases};
 ghost use Rattle.std.specs.declared.option.Option.the-variants.{None};
-ghost use Rattle.layout.specs.Limits.{Inside, Owned, Rowed};
 ghost use Rattle.kinds.specs.Limits.{Gridded, Measured};
-ghost use Rattle.kinds.specs.Places.{StripedOwner, StripedPlace, depthOf, gridLabel, stripedRoom};
+ghost use Rattle.kinds.specs.Cells.{stripedCells};
+ghost use Rattle.kinds.specs.Chunked.{chunked};
+ghost use Rattle.kinds.specs.Labels.{labelled};
 use crate::grid::Grid;
 use crate::grid::GridDebug;
 use crate::grid::GridPartialEq;
@@ -32,103 +33,66 @@ impl Striped {
 }
 
 pub impl Layout for Striped as StripedLayout {
-    fn label(&self) -> Label
-        ensures { λ r. ⌜ r ≡ gridLabel 1 1 (now (self .entry) .grid) ⌝ }
-    {
+    ghost geometry = { λ s. chunked (s .grid .chunk) (stripedCells (s .grid .members) (s .grid .chunks)) };
+
+    ghost named = { λ s. labelled 1 1 (s .grid .members) (s .grid .chunk) (s .grid .chunks) };
+
+    fn label(&self) -> Label {
         self.grid.label(STRIPED_KIND, 1)
     }
 
-    fn members(&self) -> u64
-        ensures bound { λ r. ⌜ 2 ≤ r ⌝ ∗ ⌜ r ≤ 16 ⌝ }
-        ensures value { λ r. ⌜ r ≡ now (self .entry) .grid .members ⌝ }
-    {
+    fn members(&self) -> u64 {
         self.grid.members
     }
 
-    fn depth(&self) -> u64
-        ensures bound { λ r. ⌜ 1 ≤ r ⌝ ∗ ⌜ r ≤ 16777216 ⌝ }
-        ensures value { λ r. ⌜ r ≡ depthOf (now (self .entry) .grid) ⌝ }
-    {
+    fn depth(&self) -> u64 {
         self.grid.depth()
     }
 
-    fn copies(&self) -> u64
-        ensures bound { λ r. ⌜ 1 ≤ r ⌝ ∗ ⌜ r ≤ 16 ⌝ }
-        ensures value { λ r. ⌜ r ≡ 1 ⌝ }
-    {
+    fn copies(&self) -> u64 {
         1
     }
 
-    fn loss(&self) -> u64
-        ensures bound { λ r. ⌜ r ≤ 16 ⌝ }
-        ensures value { λ r. ⌜ r ≡ 0 ⌝ }
-    {
+    fn loss(&self) -> u64 {
         0
     }
 
-    fn row_len(&self) -> u64
-        ensures bound { λ r. ⌜ Rowed r ⌝ }
-        ensures value { λ r. ⌜ r ≡ now (self .entry) .grid .chunk * now (self .entry) .grid .members ⌝ }
-    {
+    fn row_len(&self) -> u64 {
         self.grid.row_len(self.grid.members)
     }
 
-    fn rows(&self) -> u64
-        ensures bound { λ r. ⌜ Rowed r ⌝ }
-        ensures value { λ r. ⌜ r ≡ now (self .entry) .grid .chunks ⌝ }
-    {
+    fn rows(&self) -> u64 {
         self.grid.chunks
     }
 
-    fn capacity(&self) -> u64
-        ensures bound { λ r. ⌜ Rowed r ⌝ }
-        ensures value { λ r. ⌜ r ≡ stripedRoom (now (self .entry) .grid) ⌝ }
-    {
+    fn capacity(&self) -> u64 {
         self.grid.capacity(self.grid.chunks, self.grid.members)
     }
 
-    fn place(&self, sector: u64, copy: u64) -> Place
-        ensures bound { λ r. ⌜ Inside r ⌝ }
-        ensures value { λ r. ⌜ StripedPlace (now (self .entry) .grid) sector copy r ⌝ }
-    {
+    fn place(&self, sector: u64, copy: u64) -> Place {
         if sector >= self.capacity() || copy >= 1 {
             return NOWHERE;
         }
         self.grid.deal(sector / self.grid.chunk, sector)
     }
 
-    fn group(&self, _sector: u64) -> Option<u64>
-        ensures bound { λ r. ⌜ Cases r (Unit {0}) (λ g. g < 268435456) ⌝ }
-        ensures value { λ r. ⌜ r ≡ None ⌝ }
-    {
+    fn group(&self, _sector: u64) -> Option<u64> {
         None
     }
 
-    fn peers(&self, _group: u64) -> u64
-        ensures bound { λ r. ⌜ r ≤ 16 ⌝ }
-        ensures value { λ r. ⌜ r ≡ 0 ⌝ }
-    {
+    fn peers(&self, _group: u64) -> u64 {
         0
     }
 
-    fn peer(&self, _group: u64, _index: u64) -> u64
-        ensures bound { λ r. ⌜ r < 268435456 ⌝ }
-        ensures value { λ r. ⌜ r ≡ 0 ⌝ }
-    {
+    fn peer(&self, _group: u64, _index: u64) -> u64 {
         0
     }
 
-    fn parity(&self, _group: u64) -> Place
-        ensures bound { λ r. ⌜ Inside r ⌝ }
-        ensures value { λ r. ⌜ r ≡ (0, 0) ⌝ }
-    {
+    fn parity(&self, _group: u64) -> Place {
         NOWHERE
     }
 
-    fn owner(&self, place: Place) -> Owner
-        ensures bound { λ r. ⌜ Owned r ⌝ }
-        ensures value { λ r. ⌜ StripedOwner (now (self .entry) .grid) place r ⌝ }
-    {
+    fn owner(&self, place: Place) -> Owner {
         let Some(cell) = self.grid.cell(place) else {
             return Owner::Nobody;
         };

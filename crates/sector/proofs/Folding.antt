@@ -21,5 +21,5 @@ fold-next (suc i) (x ∷ xs) (y ∷ ys) h k = ap (λ t. bitXor x y ∷ t) (fold-
 
 -- one turn of the loop: w is folded up to i, and b is what byte i becomes
 pub fold-more : (i b : ℕ) (w old r : List ℕ) → w ≡ folded old (take i r) → b ≡ bitXor (getD w i 0) (getD r i 0)
-  → i < length old → i < length r → set w i b ≡ folded old (take (i + 1) r)
+    → i < length old → i < length r → set w i b ≡ folded old (take (i + 1) r)
 fold-more i b w old r e f h k = rw (e, f, e, add-one) (fold-next i old r h k)

@@ -14,4 +14,4 @@ pub returns : need.returns
 returns c =
     let value = ap (λ l. c .args .rows * l) (c .row-len .ensures .value) in
     let most = rows-most (c .args .self .now) (c .args .rows) (c .args .columns) (omega arith) in
-    record { value = value; bound = record { some = product-some (c .args .rows) (c .row-len .result) (omega arith) (c .row-len .ensures .bound .some); most = omega (arith, value, most) } }
+    record { value = value; bound = (product-some (c .args .rows) (c .row-len .result) (omega arith) (c .row-len .ensures .bound .0), omega (arith, value, most)) }

@@ -7,4 +7,4 @@ pub returns : need.returns
 returns c =
     let g = c .args .self .now in
     let row = c .in-Continue-row .ensures tt in
-    (ap (λ q. q * g .members + c .args .place .0) (row .0), cell-below (c .in-Continue-row .row) (g .members) (c .args .place .0) (g .chunks) (row .1) (row .2 .0), row .2)
+    (ap (λ q. q * g .members + c .args .place .0) (row .0), cell-below (c .in-Continue-row .row) (g .members) (c .args .place .0) (g .chunks) (simp (row .0) (row .1 .1)) (row .1 .0), row .1)

@@ -1,4 +1,3 @@
-use mathlib.Core.Path.{refl}
 use native.Mathlib.Omega.{arith}
 use Rattle.kinds.proofs.Bounds.{offset-most}
 use Rattle.kinds.proofs.grid.Grid.place.Needs as need
@@ -8,7 +7,3 @@ mul-result c = omega (arith, offset-most (c .args .self .now) (c .args .row) (c 
 
 pub add-result : need.add-result
 add-result c = omega (arith, offset-most (c .args .self .now) (c .args .row) (c .args .sector) (omega arith))
-
-pub returns : need.returns
-returns c =
-    record { value = refl; bound = record { member = omega arith; offset = offset-most (c .args .self .now) (c .args .row) (c .args .sector) (omega arith) } }

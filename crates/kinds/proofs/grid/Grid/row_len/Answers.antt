@@ -12,4 +12,4 @@ mul-result c =
 pub returns : need.returns
 returns c =
     let g = c .args .self .now in
-    record { value = refl; bound = record { some = product-some (g .chunk) (c .args .columns) (omega arith) (omega arith); most = omega (arith, mul-le (g .chunk) (c .args .columns) 2048 16 (omega arith) (omega arith)) } }
+    record { value = refl; bound = (product-some (g .chunk) (c .args .columns) (omega arith) (omega arith), omega (arith, mul-le (g .chunk) (c .args .columns) 2048 16 (omega arith) (omega arith))) }
