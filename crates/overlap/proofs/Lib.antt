@@ -1,0 +1,4 @@
+pub mod Answering
+pub mod Greatest
+pub mod Sharing
+pub mod Windows
