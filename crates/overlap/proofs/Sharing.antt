@@ -23,8 +23,9 @@ row-live g size s h = cond-true (ltb (s * g .rowLen) size) (s + 1) 0 (lt-ltb (s 
 row-met : (g : Geometry) (size r s : ℕ) → rowNeed g size r ≡ s + 1 → (r ≡ s) × Live g size s
 row-met g size r s e =
     elim (cases-lt (r * g .rowLen) size) [
-        inl lt ↦ (let same : r ≡ s = omega (arith, sym (row-live g size r lt) ∙ e) in (same, simp (sym same) lt))
-      | inr le ↦ absurd (omega (arith, sym (cond-false (ltb (r * g .rowLen) size) (r + 1) 0 (le-ltb (r * g .rowLen) size le)) ∙ e)) ]
+      | inl lt ↦ (let same : r ≡ s = omega (arith, sym (row-live g size r lt) ∙ e) in (same, simp (sym same) lt))
+      | inr le ↦ absurd (omega (arith, sym (cond-false (ltb (r * g .rowLen) size) (r + 1) 0 (le-ltb (r * g .rowLen) size le)) ∙ e))
+    ]
 
 owner-live : (g : Geometry) (size s : ℕ) (o : Owner) → Is g o → rowOf g o ≡ s → Live g size s → ownerNeed g size o ≡ s + 1
 owner-live g size s (Datum i j) is e h = ap (rowNeed g size) e ∙ row-live g size s h
@@ -51,7 +52,7 @@ place-met g law size s p e = owner-met g size s p (g .owner p) (law .placing .ow
 
 -- a place that a live source row has counts that row
 place-live : (g : Geometry) → Lawful g → (size s : ℕ) (p : ℕ × ℕ) (o : Owner) → Is g o → rowOf g o ≡ s → placeOf g o ≡ p → Live g size s
-  → placeNeed g size p ≡ s + 1
+    → placeNeed g size p ≡ s + 1
 place-live g law size s p o is e same h =
     ap (ownerNeed g size) (ap (g .owner) (sym same) ∙ law .placing .back o is) ∙ owner-live g size s o is e h
 
@@ -73,7 +74,7 @@ led-is s t size i h e =
     cond-true (ltb 0 (t .groups)) _ 0 (lt-ltb 0 (t .groups) h) ∙ cond-true (eqb (t .peer (t .group i) 0) i) _ 0 (eq-eqb (t .peer (t .group i) 0) i e)
 
 above : (s t : Geometry) → Lawful s → Lawful t → (size r row : ℕ) → Live s size row
-  → (old new : Owner) → Is s old → Is t new → rowOf s old ≡ row → rowOf t new ≡ r → placeOf s old ≡ placeOf t new → row < needOf s t size r
+    → (old new : Owner) → Is s old → Is t new → rowOf s old ≡ row → rowOf t new ≡ r → placeOf s old ≡ placeOf t new → row < needOf s t size r
 above s t sl tl size r row live old (Datum i j) oi ni e f same =
     let at = place-live s sl size row (t .datum i j) old oi e same live in
     let copies : ℕ → ℕ = λ k. placeNeed s size (t .datum i k) in
@@ -89,44 +90,57 @@ above s t sl tl size r row live old Nobody oi ni e f same = absurd ni
 
 -- the number is met: by a copy, or by the parity of a group that a sector leads
 copy-shared : (s t : Geometry) → Lawful s → Lawful t → (size r row i : ℕ) → i < capacity t → i / t .rowLen ≡ r
-  → most (λ j. placeNeed s size (t .datum i j)) (t .copies) ≡ row + 1 → Live s size row × Shared s t row r
+    → most (λ j. placeNeed s size (t .datum i j)) (t .copies) ≡ row + 1 → Live s size row × Shared s t row r
 copy-shared s t sl tl size r row i h e m =
     let j = most-met (λ j. placeNeed s size (t .datum i j)) (t .copies) row m in
     let f = place-met s sl size row (t .datum i (j .0)) (j .2) in
     (f .live, record { old = f .owner; new = Datum i (j .0); old-is = f .is; new-is = (h, j .1); old-row = f .row; new-row = e; place = f .place })
 
 led-shared : (s t : Geometry) → Lawful s → Lawful t → (size r row i : ℕ) → i < capacity t → i / t .rowLen ≡ r
-  → ledNeed s t size i ≡ row + 1 → Live s size row × Shared s t row r
+    → ledNeed s t size i ≡ row + 1 → Live s size row × Shared s t row r
 led-shared s t sl tl size r row i h e m =
     elim (cases-lt 0 (t .groups)) [
-        inr le ↦ absurd (omega (arith, sym (cond-false (ltb 0 (t .groups)) _ 0 (le-ltb 0 (t .groups) le)) ∙ m))
+      | inr le ↦ absurd (omega (arith, sym (cond-false (ltb 0 (t .groups)) _ 0 (le-ltb 0 (t .groups) le)) ∙ m))
       | inl lt ↦ elim (cases-eq (t .peer (t .group i) 0) i) [
-            inr ne ↦ absurd (omega (arith, sym (cond-true (ltb 0 (t .groups)) _ 0 (lt-ltb 0 (t .groups) lt) ∙ cond-false (eqb (t .peer (t .group i) 0) i) _ 0 (ne-eqb (t .peer (t .group i) 0) i ne)) ∙ m))
-          | inl leads ↦
-                (let f = place-met s sl size row (t .parity (t .group i)) (sym (led-is s t size i lt leads) ∙ m) in
-                (f .live, record {
-                    old = f .owner; new = Parity (t .group i); old-is = f .is; new-is = tl .grouping .joined i lt h .group;
-                    old-row = f .row; new-row = ap (λ y. y / t .rowLen) leads ∙ e; place = f .place })) ] ]
+        | inr ne ↦ absurd (omega (arith, sym (cond-true (ltb 0 (t .groups)) _ 0 (lt-ltb 0 (t .groups) lt) ∙ cond-false (eqb (t .peer (t .group i) 0) i) _ 0 (ne-eqb (t .peer (t .group i) 0) i ne)) ∙ m))
+        | inl leads ↦
+            (let f = place-met s sl size row (t .parity (t .group i)) (sym (led-is s t size i lt leads) ∙ m) in (
+              f .live,
+              record {
+                old = f .owner;
+                new = Parity (t .group i);
+                old-is = f .is;
+                new-is = tl .grouping .joined i lt h .group;
+                old-row = f .row;
+                new-row = ap (λ y. y / t .rowLen) leads ∙ e;
+                place = f .place;
+              },
+            ))
+      ]
+    ]
 
 met : (s t : Geometry) → Lawful s → Lawful t → (size r row : ℕ) → needOf s t size r ≡ row + 1 → Live s size row × Shared s t row r
 met s t sl tl size r row m =
     let row-of : ℕ → ℕ = λ k. sectorNeed s t size (r * t .rowLen + k) in
     elim (cases-lt r (t .rows)) [
-        inr le ↦ absurd (omega (arith, sym (cond-false (ltb r (t .rows)) (most row-of (t .rowLen)) 0 (le-ltb r (t .rows) le)) ∙ m))
+      | inr le ↦ absurd (omega (arith, sym (cond-false (ltb r (t .rows)) (most row-of (t .rowLen)) 0 (le-ltb r (t .rows) le)) ∙ m))
       | inl lt ↦
-            (let k = most-met row-of (t .rowLen) row (sym (cond-true (ltb r (t .rows)) (most row-of (t .rowLen)) 0 (lt-ltb r (t .rows) lt)) ∙ m) in
-            let i = r * t .rowLen + k .0 in
-            let inside : i < capacity t = omega (arith, mul-add-lt r (t .rowLen) (k .0) (t .rows) lt (k .1), mul-comm (t .rowLen) (t .rows)) in
-            let in-row : i / t .rowLen ≡ r = div-mul-add r (t .rowLen) (k .0) (k .1) in
-            let copies = most (λ j. placeNeed s size (t .datum i j)) (t .copies) in
-            elim (cases-lt copies (ledNeed s t size i)) [
-                inl led ↦ led-shared s t sl tl size r row i inside in-row (omega (arith, k .2))
-              | inr cop ↦ copy-shared s t sl tl size r row i inside in-row (omega (arith, k .2)) ]) ]
+          (let k = most-met row-of (t .rowLen) row (sym (cond-true (ltb r (t .rows)) (most row-of (t .rowLen)) 0 (lt-ltb r (t .rows) lt)) ∙ m) in
+          let i = r * t .rowLen + k .0 in
+          let inside : i < capacity t = omega (arith, mul-add-lt r (t .rowLen) (k .0) (t .rows) lt (k .1), mul-comm (t .rowLen) (t .rows)) in
+          let in-row : i / t .rowLen ≡ r = div-mul-add r (t .rowLen) (k .0) (k .1) in
+          let copies = most (λ j. placeNeed s size (t .datum i j)) (t .copies) in
+          elim (cases-lt copies (ledNeed s t size i)) [
+            | inl led ↦ led-shared s t sl tl size r row i inside in-row (omega (arith, k .2))
+            | inr cop ↦ copy-shared s t sl tl size r row i inside in-row (omega (arith, k .2))
+          ])
+    ]
 
 pub highest : (s t : Geometry) → Lawful s → Lawful t → (size r : ℕ) → Highest s t size r (needOf s t size r)
 highest s t sl tl size r = record {
-    above = λ row live sh. above s t sl tl size r row live (sh .old) (sh .new) (sh .old-is) (sh .new-is) (sh .old-row) (sh .new-row) (sh .place);
-    met = λ row e. met s t sl tl size r row e }
+  above = λ row live sh. above s t sl tl size r row live (sh .old) (sh .new) (sh .old-is) (sh .new-is) (sh .old-row) (sh .new-row) (sh .place);
+  met = λ row e. met s t sl tl size r row e;
+}
 
 pub highest-at : (s t : Geometry) → Lawful s → Lawful t → (size r n : ℕ) → n ≡ needOf s t size r → Highest s t size r n
 highest-at s t sl tl size r n e = subst (Highest s t size r) (sym e) (highest s t sl tl size r)

@@ -4,6 +4,9 @@ ghost use Prim.Native.Nat.{ℕ, _+_, _-_, _*_, _/_, _≤_, _<_, min};
 ghost use Rattle.layout.specs.Geometry.{capacity as room};
 ghost use Rattle.overlap.specs.Needs.{aheadOf, distanceOf, needOf, placeNeed, reachOf, rowNeed, sectorNeed};
 ghost use Rattle.overlap.specs.Rows.{Highest, Live, LiveRows};
+
+pub mod walk;
+
 use layout::Layout;
 use layout::led_group;
 use layout::place::Owner;
@@ -108,9 +111,5 @@ fn row_need<Old: Layout>(source: &Old, size: u64, sector: u64) -> u64
 {
     let len = source.row_len();
     let row = sector / len;
-    if row * len < size {
-        row + 1
-    } else {
-        0
-    }
+    if row * len < size { row + 1 } else { 0 }
 }

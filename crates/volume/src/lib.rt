@@ -7,7 +7,6 @@ mod array;
 pub mod grant;
 mod judge;
 pub mod phase;
-pub mod walk;
 
 use answer::Fault;
 use answer::Operation;

@@ -40,6 +40,6 @@ returns g c =
     let row : ℕ → ℕ = λ k. sectorNeed s t (c .args .size) (c .args .row * t .rowLen + k) in
     let all : c .loop-index .index ≡ t .rowLen = omega arith in
     let is : c .loop-index .most ≡ needOf s t (c .args .size) (c .args .row) =
-        c .loop-index .inv ∙ (ap (most row) all ∙ sym (cond-true (ltb (c .args .row) (t .rows)) (most row (t .rowLen)) 0 (lt-ltb (c .args .row) (t .rows) (omega arith)))) in
+    c .loop-index .inv ∙ (ap (most row) all ∙ sym (cond-true (ltb (c .args .row) (t .rows)) (most row (t .rowLen)) 0 (lt-ltb (c .args .row) (t .rows) (omega arith)))) in
     let high = highest-at s t (g .Old·Layout·met .lawful (c .args .source .now)) (g .New·Layout·met .lawful (c .args .target .now)) (c .args .size) (c .args .row) (c .loop-index .most) is in
     record { value = is; highest = high; live = λ k rows. need-live s t (c .args .size) (c .args .row) (c .loop-index .most) k high rows }
