@@ -16,11 +16,17 @@ fn compare_file(rt: &LibcRuntime, name: &str) -> Result<Comparison, AnyError> {
     let data = found.data;
     let parities = found.parities;
     if found.agrees() {
-        println!(rt, "{name}: {data} copies, {parities} parities, all where md has them")?;
+        println!(
+            rt,
+            "{name}: {data} copies, {parities} parities, all where md has them"
+        )?;
     } else {
         let differing = found.differing;
         let missing = found.missing;
-        println!(rt, "{name}: DIFFERS: {differing} of {data} copies and {parities} parities lie elsewhere, {missing} missing")?;
+        println!(
+            rt,
+            "{name}: DIFFERS: {differing} of {data} copies and {parities} parities lie elsewhere, {missing} missing"
+        )?;
     }
     Ok(found)
 }
@@ -41,7 +47,10 @@ fn main(rt: LibcRuntime) -> Result<(), AnyError> {
             wrong = wrong.saturating_add(1);
         }
     }
-    println!(rt, "{files} recordings, {data} copies, {parities} parities, {wrong} recordings differ")?;
+    println!(
+        rt,
+        "{files} recordings, {data} copies, {parities} parities, {wrong} recordings differ"
+    )?;
     if wrong > 0 {
         return Err("a recording differs".into());
     }

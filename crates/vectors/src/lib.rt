@@ -94,7 +94,10 @@ fn data_elsewhere(recorded: &Recorded, sector: u64, place: Place) -> u64 {
     for i in 0..recorded.chunk {
         let at = (place.0, place.1.saturating_add(i));
         let found = match recorded.layout.owner(at) {
-            Owner::Datum { sector: owned, copy } => owned == sector.saturating_add(i) && recorded.layout.place(owned, copy) == at,
+            Owner::Datum {
+                sector: owned,
+                copy,
+            } => owned == sector.saturating_add(i) && recorded.layout.place(owned, copy) == at,
             _ => false,
         };
         if !found {
@@ -130,12 +133,14 @@ fn compare_line(recorded: &Recorded, line: &str, so_far: Comparison) -> Option<C
             let _copy = number(words.next())?;
             let place = (number(words.next())?, number(words.next())?);
             next.data = next.data.saturating_add(recorded.chunk);
-            next.differing = next.differing.saturating_add(data_elsewhere(recorded, sector, place));
+            next.differing = next.differing
+                .saturating_add(data_elsewhere(recorded, sector, place));
         }
         "P" => {
             let place = (number(words.next())?, number(words.next())?);
             next.parities = next.parities.saturating_add(recorded.chunk);
-            next.differing = next.differing.saturating_add(parity_elsewhere(recorded, place));
+            next.differing = next.differing
+                .saturating_add(parity_elsewhere(recorded, place));
         }
         "#" => {}
         _ => return None,
@@ -168,7 +173,8 @@ pub fn compare(text: &str) -> Option<Comparison> {
         result = compare_line(&recorded, line, result)?;
     }
     let (data, parities) = expected(&recorded.layout);
-    result.missing = data.abs_diff(result.data).saturating_add(parities.abs_diff(result.parities));
+    result.missing = data.abs_diff(result.data)
+        .saturating_add(parities.abs_diff(result.parities));
     Some(result)
 }
 
@@ -177,7 +183,8 @@ mod tests {
     use super::*;
     use std::test::*;
 
-    const GOOD: &str = "# near 3 2 1 2 3\nD 0 0 0 0\nD 0 1 1 0\nD 1 0 2 0\nD 1 1 0 1\nD 2 0 1 1\nD 2 1 2 1\n";
+    const GOOD: &str =
+        "# near 3 2 1 2 3\nD 0 0 0 0\nD 0 1 1 0\nD 1 0 2 0\nD 1 1 0 1\nD 2 0 1 1\nD 2 1 2 1\n";
 
     #[test]
     fn a_recording_agrees() -> Result<(), Fail> {
@@ -189,13 +196,21 @@ mod tests {
     // One damaged number each: a place, a sector, the capacity; and a line left out.
     #[test]
     fn a_damaged_recording_differs() -> Result<(), Fail> {
-        let place = compare("# near 3 2 1 2 3\nD 0 0 0 0\nD 0 1 1 0\nD 1 0 2 0\nD 1 1 0 0\nD 2 0 1 1\nD 2 1 2 1\n");
+        let place = compare(
+            "# near 3 2 1 2 3\nD 0 0 0 0\nD 0 1 1 0\nD 1 0 2 0\nD 1 1 0 0\nD 2 0 1 1\nD 2 1 2 1\n",
+        );
         check_eq(place.ok_or("no recording")?.differing, 1)?;
-        let sector = compare("# near 3 2 1 2 3\nD 0 0 0 0\nD 0 1 1 0\nD 2 0 2 0\nD 1 1 0 1\nD 2 0 1 1\nD 2 1 2 1\n");
+        let sector = compare(
+            "# near 3 2 1 2 3\nD 0 0 0 0\nD 0 1 1 0\nD 2 0 2 0\nD 1 1 0 1\nD 2 0 1 1\nD 2 1 2 1\n",
+        );
         check_eq(sector.ok_or("no recording")?.differing, 1)?;
-        let capacity = compare("# near 3 2 1 2 4\nD 0 0 0 0\nD 0 1 1 0\nD 1 0 2 0\nD 1 1 0 1\nD 2 0 1 1\nD 2 1 2 1\n");
+        let capacity = compare(
+            "# near 3 2 1 2 4\nD 0 0 0 0\nD 0 1 1 0\nD 1 0 2 0\nD 1 1 0 1\nD 2 0 1 1\nD 2 1 2 1\n",
+        );
         check(!capacity.ok_or("no recording")?.agrees())?;
-        let short = compare("# near 3 2 1 2 3\nD 0 0 0 0\nD 0 1 1 0\nD 1 0 2 0\nD 1 1 0 1\nD 2 0 1 1\n");
+        let short = compare(
+            "# near 3 2 1 2 3\nD 0 0 0 0\nD 0 1 1 0\nD 1 0 2 0\nD 1 1 0 1\nD 2 0 1 1\n",
+        );
         check_eq(short.ok_or("no recording")?.missing, 1)?;
         check(compare("# near 3 2 1 2 3\nD 0 0 0\n").is_none())
     }
