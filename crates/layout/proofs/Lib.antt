@@ -1,1 +1,3 @@
+pub mod Bytes
 pub mod Groups
+pub mod Labels

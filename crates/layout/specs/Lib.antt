@@ -1,2 +1,3 @@
+pub mod Bytes
 pub mod Geometry
 pub mod Lawful

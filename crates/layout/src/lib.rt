@@ -6,6 +6,7 @@ ghost use Rattle.layout.specs.Lawful.{Lawful};
 ghost use Rattle.layout.specs.declared.label.Label.{Label};
 
 pub mod label;
+pub mod number;
 pub mod place;
 
 use label::FIRST_CUSTOM_KIND;

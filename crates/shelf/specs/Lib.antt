@@ -1,2 +1,3 @@
-pub mod Answers
+pub mod Meaning
 pub mod Runs
+pub mod Trials

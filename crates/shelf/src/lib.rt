@@ -1,8 +1,10 @@
 // Shelves: a few members of equally many sectors, which can lose power or a member at every operation.
 ghost use mathlib.Core.Path.{_≡_};
-ghost use Rattle.shelf.specs.Answers.{LeavesUnlessDone};
-ghost use Rattle.shelf.specs.declared.Answer.{Answer};
+ghost use mathlib.Core.Bool.{true};
+ghost use Prim.Native.Nat.{ℕ, _<_};
+ghost use Rattle.shelf.specs.Meaning.{Flushed, Meaning, Reads, Restarts, Writes};
 
+pub mod controls;
 pub mod plain;
 mod run;
 pub mod trial;
@@ -28,27 +30,39 @@ pub enum Answer {
 
 // A shelf. What is written is current at once and settled by a flush at the latest; a restart brings out one of the two for each sector.
 pub trait Shelf {
+    // on or off, which members are there, and what is settled and what is current in each sector
+    ghost meaning: { Self → Meaning };
+
+    law inside: { (x : Self) (k : ℕ) → meaning x .present k ≡ true → k < meaning x .members };
+
     // How many members it has, present or absent.
-    fn members(&self) -> u64;
+    fn members(&self) -> u64
+        ensures { λ r. ⌜ r ≡ meaning (now (self .entry)) .members ⌝ };
 
     // How many sectors each member has.
-    fn sectors(&self) -> u64;
+    fn sectors(&self) -> u64
+        ensures { λ r. ⌜ r ≡ meaning (now (self .entry)) .sectors ⌝ };
 
-    fn is_on(&self) -> bool;
+    fn is_on(&self) -> bool
+        ensures { λ r. ⌜ r ≡ meaning (now (self .entry)) .on ⌝ };
 
     // Whether the member is there, as far as the operations have shown.
-    fn is_present(&self, member: u64) -> bool;
+    fn is_present(&self, member: u64) -> bool
+        ensures { λ r. ⌜ r ≡ meaning (now (self .entry)) .present member ⌝ };
 
     // A done read gives the sector's current content, and any other leaves the buffer.
     fn read(&mut self, member: u64, sector: u64, buffer: &mut [u8]) -> Answer
-        ensures { λ r. ⌜ LeavesUnlessDone r (now (buffer .entry)) (now (buffer .exit)) ⌝ };
+        ensures { λ r. ⌜ Reads member sector (now (buffer .entry)) (now (buffer .exit)) (meaning (now (self .entry))) (meaning (now (self .exit))) r ⌝ };
 
     // A done write sets the sector's current content.
-    fn write(&mut self, member: u64, sector: u64, buffer: &[u8]) -> Answer;
+    fn write(&mut self, member: u64, sector: u64, buffer: &[u8]) -> Answer
+        ensures { λ r. ⌜ Writes member sector (now (buffer .entry)) (meaning (now (self .entry))) (meaning (now (self .exit))) r ⌝ };
 
     // A done flush settles what is current on the member.
-    fn flush(&mut self, member: u64) -> Answer;
+    fn flush(&mut self, member: u64) -> Answer
+        ensures { λ r. ⌜ Flushed member (meaning (now (self .entry))) (meaning (now (self .exit))) r ⌝ };
 
     // Turns the shelf on again and says whether it is on.
-    fn restart(&mut self) -> bool;
+    fn restart(&mut self) -> bool
+        ensures { λ r. ⌜ Restarts (meaning (now (self .entry))) (meaning (now (self .exit))) r ⌝ };
 }

@@ -2,7 +2,8 @@
 ghost use mathlib.Core.Path.{_≡_};
 ghost use Prim.Native.Nat.{_+_, _*_, _≤_, _<_};
 ghost use Rattle.std.specs.Of.Vec.{vec-len};
-ghost use Rattle.shelf.specs.Answers.{LeavesUnlessDone};
+ghost use Rattle.std.specs.Of.Vec.{vec-items};
+ghost use Rattle.shelf.specs.Meaning.{plainMeaning};
 use crate::Answer;
 use crate::Shelf;
 use crate::run;
@@ -53,6 +54,8 @@ impl PlainShelf {
 }
 
 pub impl Shelf for PlainShelf as PlainShelfShelf {
+    ghost meaning = { λ p. plainMeaning (p .members) (p .sectors) (vec-items (p .bytes)) };
+
     fn members(&self) -> u64 {
         self.members
     }

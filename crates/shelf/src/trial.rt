@@ -1,17 +1,15 @@
 // The trial shelf: keeps what is settled apart from what is current, and loses power and members where it is told to.
 ghost use mathlib.Core.Path.{_≡_};
 ghost use Prim.Native.Nat.{_+_, _*_, _≤_, _<_};
-ghost use Rattle.std.specs.Of.Vec.{vec-len};
-ghost use Rattle.shelf.specs.Answers.{LeavesUnlessDone};
+ghost use Rattle.std.specs.Of.Vec.{vec-items, vec-len};
+ghost use lib.ListN.{length};
+ghost use Rattle.shelf.specs.Trials.{Brought, BroughtOne, trialMeaning};
 use crate::Answer;
-use crate::AnswerPartialEq;
 use crate::Shelf;
+use crate::controls::Controls;
+pub use crate::controls::NEVER;
 use crate::run;
 use answer::Refusal;
-use sector::SECTOR;
-
-// a fuse that never goes
-pub const NEVER: u32 = 4_294_967_295;
 
 // The settled image comes first, then the current one, each with the sectors of member 0 first, then those of member 1, and so on.
 #[derive(Drop)]
@@ -19,14 +17,7 @@ pub struct TrialShelf {
     members: u64,
     sectors: u64,
     bytes: Vec<u8>,
-    on: bool,
-    // operations that are left until the power goes
-    fuse: u32,
-    // for each sector, by its place modulo 32, whether a restart brings out what is current
-    choice: u32,
-    present: [bool; 16],
-    // members that will be found absent at their next operation
-    losing: [bool; 16],
+    controls: Controls,
     ghost few: { members ≤ 16 },
     ghost short: { sectors ≤ 33554432 },
     ghost held: { members * sectors * 2 * 512 ≤ vec-len bytes },
@@ -40,26 +31,26 @@ impl TrialShelf {
 
     // A shelf over a run of bytes, both images in it; where they do not fit, one of 2 members without sectors.
     pub fn new(members: u64, sectors: u64, bytes: Vec<u8>) -> TrialShelf {
-        match run::fits(members, sectors, 2, bytes.len()) {
-            Ok(()) => TrialShelf::over(members, sectors, bytes),
-            Err(_) => TrialShelf::over(2, 0, bytes),
-        }
-    }
-
-    fn over(members: u64, sectors: u64, bytes: Vec<u8>) -> TrialShelf
-        requires few { ⌜ members ≤ 16 ⌝ }
-        requires short { ⌜ sectors ≤ 33554432 ⌝ }
-        requires held { ⌜ members * sectors * 2 * 512 ≤ vec-len bytes ⌝ }
-    {
-        TrialShelf {
-            members,
-            sectors,
-            bytes,
+        let controls = Controls {
             on: true,
             fuse: NEVER,
             choice: 0,
             present: [true; 16],
             losing: [false; 16],
+        };
+        match run::fits(members, sectors, 2, bytes.len()) {
+            Ok(()) => TrialShelf {
+                members,
+                sectors,
+                bytes,
+                controls,
+            },
+            Err(_) => TrialShelf {
+                members: 2,
+                sectors: 0,
+                bytes,
+                controls,
+            },
         }
     }
 
@@ -69,22 +60,18 @@ impl TrialShelf {
             members: _,
             sectors: _,
             bytes,
-            on: _,
-            fuse: _,
-            choice: _,
-            present: _,
-            losing: _,
+            controls: _,
         } = self;
         bytes
     }
 
     // Lets the power go after so many operations more.
     pub fn set_fuse(&mut self, fuse: u32) {
-        self.fuse = fuse;
+        self.controls.fuse = fuse;
     }
 
     pub fn set_choice(&mut self, choice: u32) {
-        self.choice = choice;
+        self.controls.choice = choice;
     }
 
     // Has the member be found absent at its next operation.
@@ -92,43 +79,16 @@ impl TrialShelf {
         if member >= self.members {
             return Err(Refusal::OutOfLimits);
         }
-        self.losing[member as usize] = true;
+        self.controls.losing[member as usize] = true;
         Ok(())
     }
 
     pub fn fuse(&self) -> u32 {
-        self.fuse
+        self.controls.fuse
     }
 
     pub fn choice(&self) -> u32 {
-        self.choice
-    }
-
-    // One operation on a member while the shelf is on: a loss shows, and the fuse burns. Answers how the shelf is afterwards.
-    fn strike(&mut self, member: u64) -> Answer
-        requires { ⌜ member < 16 ⌝ }
-        ensures members { λ _. ⌜ now (self .exit) .members ≡ now (self .entry) .members ⌝ }
-        ensures sectors { λ _. ⌜ now (self .exit) .sectors ≡ now (self .entry) .sectors ⌝ }
-        ensures bytes { λ _. ⌜ now (self .exit) .bytes ≡ now (self .entry) .bytes ⌝ }
-    {
-        if !self.on {
-            return Answer::Off;
-        }
-        if self.losing[member as usize] {
-            self.present[member as usize] = false;
-        }
-        if self.fuse == 0 {
-            self.on = false;
-            return Answer::Off;
-        }
-        if self.fuse < NEVER {
-            self.fuse -= 1;
-        }
-        if self.present[member as usize] {
-            Answer::Done
-        } else {
-            Answer::Absent
-        }
+        self.controls.choice
     }
 
     // The sectors of one image.
@@ -137,37 +97,11 @@ impl TrialShelf {
     {
         (self.members * self.sectors) as usize
     }
-
-    // What a restart makes of one sector of a present member.
-    fn bring_out(&mut self, member: u64, sector: u64) {
-        let Some(at) = run::cell(self.members, self.sectors, member, sector, SECTOR) else {
-            return;
-        };
-        let image = self.image();
-        let mut content = [0; SECTOR];
-        if self.choice >> (at % 32) as u32 & 1 == 1 {
-            run::load(&self.bytes, image + at, &mut content);
-            run::store(&mut self.bytes, at, &content);
-        } else {
-            run::load(&self.bytes, at, &mut content);
-            run::store(&mut self.bytes, image + at, &content);
-        }
-    }
-
-    // Settles what is current on a member.
-    fn settle(&mut self, member: u64) {
-        for sector in 0..self.sectors {
-            let Some(at) = run::cell(self.members, self.sectors, member, sector, SECTOR) else {
-                return;
-            };
-            let mut content = [0; SECTOR];
-            run::load(&self.bytes, self.image() + at, &mut content);
-            run::store(&mut self.bytes, at, &content);
-        }
-    }
 }
 
 pub impl Shelf for TrialShelf as TrialShelfShelf {
+    ghost meaning = { λ t. trialMeaning (t .members) (t .sectors) (vec-items (t .bytes)) (t .controls) };
+
     fn members(&self) -> u64 {
         self.members
     }
@@ -177,22 +111,24 @@ pub impl Shelf for TrialShelf as TrialShelfShelf {
     }
 
     fn is_on(&self) -> bool {
-        self.on
+        self.controls.on
     }
 
     fn is_present(&self, member: u64) -> bool {
-        member < self.members && self.present[member as usize]
+        member < self.members && self.controls.present[member as usize]
     }
 
     fn read(&mut self, member: u64, sector: u64, buffer: &mut [u8]) -> Answer {
         let Some(at) = run::cell(self.members, self.sectors, member, sector, buffer.len()) else {
             return Answer::Refused;
         };
-        let answer = self.strike(member);
-        if answer == Answer::Done {
-            run::load(&self.bytes, self.image() + at, buffer);
+        match self.controls.strike(member) {
+            Answer::Done => {
+                run::load(&self.bytes, self.image() + at, buffer);
+                Answer::Done
+            }
+            other => other,
         }
-        answer
     }
 
     // At the end of the fuse the write still reaches the current image.
@@ -200,9 +136,9 @@ pub impl Shelf for TrialShelf as TrialShelfShelf {
         let Some(at) = run::cell(self.members, self.sectors, member, sector, buffer.len()) else {
             return Answer::Refused;
         };
-        let was_on = self.on;
-        let answer = self.strike(member);
-        if was_on && self.present[member as usize] {
+        let was_on = self.controls.on;
+        let answer = self.controls.strike(member);
+        if was_on && self.controls.present[member as usize] {
             let image = self.image();
             run::store(&mut self.bytes, image + at, buffer);
         }
@@ -213,23 +149,53 @@ pub impl Shelf for TrialShelf as TrialShelfShelf {
         if member >= self.members {
             return Answer::Refused;
         }
-        let answer = self.strike(member);
-        if answer == Answer::Done {
-            self.settle(member);
+        match self.controls.strike(member) {
+            Answer::Done => {
+                let first = (member * self.sectors) as usize;
+                let image = self.image();
+                run::pull(&mut self.bytes, image, first, first + self.sectors as usize);
+                Answer::Done
+            }
+            other => other,
         }
-        answer
     }
 
     fn restart(&mut self) -> bool {
-        for member in 0..self.members {
-            if self.present[member as usize] {
-                for sector in 0..self.sectors {
-                    self.bring_out(member, sector);
-                }
-            }
-        }
-        self.fuse = NEVER;
-        self.on = true;
+        bring_out(&mut self.bytes, &self.controls, self.members, self.sectors);
+        self.controls.fuse = NEVER;
+        self.controls.on = true;
         true
+    }
+}
+
+// Makes one content of what is settled and what is current in each sector of the present members.
+fn bring_out(images: &mut [u8], controls: &Controls, members: u64, sectors: u64)
+    requires few { ⌜ members ≤ 16 ⌝ }
+    requires short { ⌜ sectors ≤ 33554432 ⌝ }
+    requires held { ⌜ members * sectors * 2 * 512 ≤ length (now images) ⌝ }
+    ensures { λ _. ⌜ Brought members sectors (now (controls .entry)) members (now (images .entry)) (now (images .exit)) ⌝ }
+{
+    for member in 0..members {
+        bring_out_member(images, controls, members, sectors, member);
+    }
+}
+
+fn bring_out_member(images: &mut [u8], controls: &Controls, members: u64, sectors: u64, member: u64)
+    requires few { ⌜ members ≤ 16 ⌝ }
+    requires short { ⌜ sectors ≤ 33554432 ⌝ }
+    requires held { ⌜ members * sectors * 2 * 512 ≤ length (now images) ⌝ }
+    requires inside { ⌜ member < members ⌝ }
+    ensures { λ _. ⌜ BroughtOne members sectors (now (controls .entry)) member (now (images .entry)) (now (images .exit)) ⌝ }
+{
+    if controls.present[member as usize] {
+        let image = (members * sectors) as usize;
+        let first = (member * sectors) as usize;
+        run::choose(
+            images,
+            controls.choice,
+            image,
+            first,
+            first + sectors as usize,
+        );
     }
 }

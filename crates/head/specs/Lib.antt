@@ -1,0 +1,3 @@
+pub mod Checkpoints
+pub mod Fields
+pub mod Heads

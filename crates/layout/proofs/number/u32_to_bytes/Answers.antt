@@ -1,0 +1,10 @@
+use mathlib.Core.Path.{_≡_, sym, ap, _∙_}
+use native.Mathlib.Omega.{arith}
+use Rattle.layout.specs.Bytes.{le, ofLe}
+use Rattle.layout.proofs.Bytes.{le-four, of-le}
+use Rattle.layout.proofs.number.u32_to_bytes.Needs as need
+
+pub returns : need.returns
+returns c =
+    let e : c .to-le-bytes .result ≡ le 4 (c .args .value) = c .to-le-bytes .ensures ∙ sym (le-four (c .args .value)) in
+    record { bytes = e; back = ap ofLe e ∙ of-le 4 (c .args .value) (omega arith) }
