@@ -4,7 +4,7 @@ ghost use mathlib.Core.Bool.{true};
 ghost use Prim.Native.Nat.{ℕ, _<_};
 ghost use Rattle.shelf.specs.Meaning.{Flushed, Meaning, Reads, Restarts, Writes};
 
-pub mod controls;
+mod controls;
 pub mod plain;
 mod run;
 pub mod trial;
