@@ -9,8 +9,8 @@ loop-i-init c = sym (fold_none c.args.written.now)
 
 pub loop-i-preserved : goal.loop-i-preserved
 loop-i-preserved c =
-    fold_more c.loop-i.i c.fold-byte.result c.loop-i.written c.args.written.now c.args.read.now
-    c.loop-i.invariant c.fold-byte.ensures (omega arith) (omega arith)
+    fold_more c.loop-i.i c.fold_byte.result c.loop-i.written c.args.written.now c.args.read.now
+    c.loop-i.invariant c.fold_byte.ensures (omega arith) (omega arith)
 
 pub returns : goal.returns
 returns c = c.loop-i.invariant ∙ ap (folded c.args.written.now) (take_all c.loop-i.i c.args.read.now (omega arith))

@@ -4,8 +4,8 @@ use Rattle.layout.proofs.label.numbers.Goals as goal
 
 pub returns : goal.returns
 returns c = record {
-  chunk = c.chunk-bytes.ensures;
-  depth = c.depth-bytes.ensures;
-  whole = parts c.args.bytes.now c.chunk-bytes.result c.depth-bytes.result (omega arith) c.chunk-bytes.ensures
-      c.depth-bytes.ensures;
+  chunk = c.chunk_bytes.ensures;
+  depth = c.depth_bytes.ensures;
+  whole = parts c.args.bytes.now c.chunk_bytes.result c.depth_bytes.result (omega arith) c.chunk_bytes.ensures
+      c.depth_bytes.ensures;
 }

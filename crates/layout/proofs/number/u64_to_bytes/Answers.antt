@@ -5,5 +5,5 @@ use Rattle.layout.proofs.number.u64_to_bytes.Goals as goal
 
 pub returns : goal.returns
 returns c =
-    let e : c.to-le-bytes.result ≡ le 8 c.args.value = c.to-le-bytes.ensures ∙ sym (le_eight c.args.value) in
+    let e : c.to_le_bytes.result ≡ le 8 c.args.value = c.to_le_bytes.ensures ∙ sym (le_eight c.args.value) in
     record { bytes = e; back = ap from_le e ∙ of_le 8 c.args.value (omega arith) }
