@@ -8,9 +8,7 @@ use Rattle.layout.specs.Lawful.{Limits, Loss, Lawful}
 use Rattle.kinds.specs.Cells.{striped_cells, left_cells, near_cells, far_cells}
 use Rattle.kinds.specs.Chunked.{chunked}
 use Rattle.kinds.specs.Labels.{labelled}
-use Rattle.kinds.specs.Stocks.{geometry_of, geometry_named, label_of}
-use Rattle.kinds.specs.declared.stock.Stock.{Stock}
-use Rattle.kinds.specs.declared.stock.Stock.TheVariants.{Striped, LeftSymmetric, Near, Far}
+use Rattle.kinds.specs.Named.{geometry_named}
 use Rattle.kinds.specs.declared.grid.Grid.{Grid}
 use Rattle.kinds.specs.Bounds.{near_rows, rows_most}
 use Rattle.kinds.specs.CellsLemmas.{product_some}
@@ -96,18 +94,6 @@ near_named g f = ap (λ h. chunked g.chunk (near_cells g.members h f)) (sym (chu
 
 pub far_named : (g : Grid) (f : ℕ) → chunked g.chunk (far_cells g.members g.chunks f) ≡ geometry_named (labelled 4 f g.members g.chunk g.chunks)
 far_named g f = ap (λ h. chunked g.chunk (far_cells g.members h f)) (sym (chunks_of g))
-
-pub stock_named : (s : Stock) → geometry_of s ≡ geometry_named (label_of s)
-stock_named (Striped s) = striped_named s.grid
-stock_named (LeftSymmetric s) = left_named s.grid
-stock_named (Near s) = near_named s.grid s.copies
-stock_named (Far s) = far_named s.grid s.copies
-
-pub stock_lawful : (s : Stock) → Lawful (geometry_of s)
-stock_lawful (Striped s) = striped_lawful s.grid
-stock_lawful (LeftSymmetric s) = left_lawful s.grid s.three
-stock_lawful (Near s) = near_lawful s.grid s.copies s.few.0 s.apart
-stock_lawful (Far s) = far_lawful s.grid s.copies s.few.0 s.apart s.zoned
 
 -- so what has one label is one layout
 pub one_name : (g h : Geometry) (l m : Label) → g ≡ geometry_named l → h ≡ geometry_named m → l ≡ m → g ≡ h

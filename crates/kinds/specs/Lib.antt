@@ -4,7 +4,9 @@ pub mod Grids
 pub mod Labels
 pub mod Limits
 pub mod Stocks
+pub mod Named
 pub mod Laws
+pub mod StockLaws
 pub mod Bounds
 pub mod CellsLemmas
 pub mod Chunks

@@ -39,13 +39,3 @@ geometry_of (Striped s) = chunked s.grid.chunk (striped_cells s.grid.members s.g
 geometry_of (LeftSymmetric s) = chunked s.grid.chunk (left_cells s.grid.members s.grid.chunks)
 geometry_of (Near s) = chunked s.grid.chunk (near_cells s.grid.members s.grid.chunks s.copies)
 geometry_of (Far s) = chunked s.grid.chunk (far_cells s.grid.members s.grid.chunks s.copies)
-
--- the same, from the label alone
-abbrev pub cells_named : Label → ℕ → Geometry
-cells_named l h =
-    cond (l.kind == 1) (striped_cells l.members h)
-    (cond (l.kind == 2) (left_cells l.members h)
-    (cond (l.kind == 3) (near_cells l.members h l.copies) (far_cells l.members h l.copies)))
-
-abbrev pub geometry_named : Label → Geometry
-geometry_named l = chunked l.chunk (cells_named l (l.depth / l.chunk))

@@ -4,7 +4,7 @@ ghost use Rattle.kinds.specs.Limits.{Copied, Gridded, Measured};
 ghost use Rattle.kinds.specs.Cells.{far_cells};
 ghost use Rattle.kinds.specs.Chunked.{chunked};
 ghost use Rattle.kinds.specs.Labels.{labelled};
-ghost use Rattle.std.proofs.Common.{rules, arith};
+ghost use Rattle.kinds.specs.Laws.{far_lawful, far_named, one_name};
 
 use crate::grid::{Grid, NOWHERE};
 use crate::kind::FAR_KIND;
@@ -48,9 +48,9 @@ impl Layout for Far {
 
     ghost named = { λ s. labelled 4 s.copies s.grid.members s.grid.chunk s.grid.chunks };
 
-    ghost lawful = { first_of (Prim.search rules, Prim.grind (arith, Self.row.coded.inj)) };
+    ghost lawful = { λ x. far_lawful x.grid x.copies x.few.0 x.apart x.zoned };
 
-    ghost one = { first_of (Prim.search rules, Prim.grind (arith, Self.row.coded.inj)) };
+    ghost one = { λ x y e. one_name _ _ _ _ (far_named x.grid x.copies) (far_named y.grid y.copies) e };
 
     fn label(&self) -> Label {
         self.grid.label(FAR_KIND, self.copies as u8)

@@ -5,7 +5,7 @@ ghost use Rattle.kinds.specs.Limits.{Gridded, Measured};
 ghost use Rattle.kinds.specs.Cells.{left_cells, parity_member_lem};
 ghost use Rattle.kinds.specs.Chunked.{chunked};
 ghost use Rattle.kinds.specs.Labels.{labelled};
-ghost use Rattle.std.proofs.Common.{rules, arith};
+ghost use Rattle.kinds.specs.Laws.{left_lawful, left_named, one_name};
 
 use crate::grid::{Grid, NOWHERE};
 use crate::kind::LEFT_SYMMETRIC_KIND;
@@ -54,9 +54,9 @@ impl Layout for LeftSymmetric {
 
     ghost named = { λ s. labelled 2 1 s.grid.members s.grid.chunk s.grid.chunks };
 
-    ghost lawful = { first_of (Prim.search rules, Prim.grind (arith, Self.row.coded.inj)) };
+    ghost lawful = { λ x. left_lawful x.grid x.three };
 
-    ghost one = { first_of (Prim.search rules, Prim.grind (arith, Self.row.coded.inj)) };
+    ghost one = { λ x y e. one_name _ _ _ _ (left_named x.grid) (left_named y.grid) e };
 
     fn label(&self) -> Label {
         self.grid.label(LEFT_SYMMETRIC_KIND, 1)

@@ -4,7 +4,7 @@ ghost use Rattle.kinds.specs.Limits.{Copied, Gridded, Measured};
 ghost use Rattle.kinds.specs.Cells.{near_cells};
 ghost use Rattle.kinds.specs.Chunked.{chunked};
 ghost use Rattle.kinds.specs.Labels.{labelled};
-ghost use Rattle.std.proofs.Common.{rules, arith};
+ghost use Rattle.kinds.specs.Laws.{near_lawful, near_named, one_name};
 
 use crate::grid::{Grid, NOWHERE};
 use crate::kind::NEAR_KIND;
@@ -39,9 +39,9 @@ impl Layout for Near {
 
     ghost named = { λ s. labelled 3 s.copies s.grid.members s.grid.chunk s.grid.chunks };
 
-    ghost lawful = { first_of (Prim.search rules, Prim.grind (arith, Self.row.coded.inj)) };
+    ghost lawful = { λ x. near_lawful x.grid x.copies x.few.0 x.apart };
 
-    ghost one = { first_of (Prim.search rules, Prim.grind (arith, Self.row.coded.inj)) };
+    ghost one = { λ x y e. one_name _ _ _ _ (near_named x.grid x.copies) (near_named y.grid y.copies) e };
 
     fn label(&self) -> Label {
         self.grid.label(NEAR_KIND, self.copies as u8)

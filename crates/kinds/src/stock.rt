@@ -2,7 +2,8 @@
 ghost use Rattle.std.specs.Prelude.{◌≡◌, MatchOption, MatchResult};
 ghost use Rattle.answer.specs.declared.Refusal.TheVariants.{OutOfLimits};
 ghost use Rattle.kinds.specs.Stocks.{Stocked, geometry_of, label_of};
-ghost use Rattle.kinds.specs.Laws.{stock_lawful, stock_named, one_name};
+ghost use Rattle.kinds.specs.Laws.{one_name};
+ghost use Rattle.kinds.specs.StockLaws.{stock_lawful, stock_named};
 
 use crate::far::Far;
 use crate::kind::{FAR_KIND, LEFT_SYMMETRIC_KIND, NEAR_KIND, STRIPED_KIND};

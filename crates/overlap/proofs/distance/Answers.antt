@@ -12,9 +12,9 @@ loop-row-preserved g c =
     let reach : c.max-reach.result ≡ reach_of s t c.args.size c.loop-row.row =
     most_more (need_of s t c.args.size) c.loop-row.row c.loop-row.reach c.need.result c.max-reach.result c.loop-row.invariant.0 c.need.ensures.value c.max-reach.ensures in (
       reach,
-      most_more ahead c.loop-row.row c.loop-row.most c.kept-ahead.result c.max-most.result c.loop-row.invariant.1
-          (ahead_is s t c.args.size c.max-reach.result (reach_of s t c.args.size c.loop-row.row) c.row-len.result c.row-len-in-loop-row.result c.loop-row.row c.kept-ahead.result
-          reach c.row-len.ensures c.row-len-in-loop-row.ensures c.kept-ahead.ensures)
+      most_more ahead c.loop-row.row c.loop-row.most c.kept_ahead.result c.max-most.result c.loop-row.invariant.1
+          (ahead_is s t c.args.size c.max-reach.result (reach_of s t c.args.size c.loop-row.row) c.row_len.result c.row_len-in-loop-row.result c.loop-row.row c.kept_ahead.result
+          reach c.row_len.ensures c.row_len-in-loop-row.ensures c.kept_ahead.ensures)
           c.max-most.ensures,
     )
 

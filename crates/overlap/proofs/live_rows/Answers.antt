@@ -4,6 +4,6 @@ use Rattle.overlap.proofs.live_rows.Goals as goal
 
 pub returns : goal.returns
 returns g c = record {
-  rows = live_rows_lem (g.L.Layout.geometry c.args.source.now) (g.met.L.Layout.lawful c.args.source.now) c.args.size c.row-len.result (omega arith) c.row-len.ensures;
+  rows = live_rows_lem (g.L.Layout.geometry c.args.source.now) (g.met.L.Layout.lawful c.args.source.now) c.args.size c.row_len.result (omega arith) c.row_len.ensures;
   bound = search rules;
 }

@@ -16,10 +16,10 @@ returns-then-row-rows g c =
     let high = highest_at s t (g.met.Old.Layout.lawful c.args.source.now) (g.met.New.Layout.lawful c.args.target.now) c.args.size c.args.row 0 none in
     record { value = none; highest = high; live = λ k rows. omega arith }
 
-pub sector-need-requires : goal.sector-need-requires
-sector-need-requires g c =
+pub sector_need-requires : goal.sector_need-requires
+sector_need-requires g c =
     let t = g.New.Layout.geometry c.args.target.now in
-    let len = ap (λ l. c.args.row * l) c.row-len-len.ensures in
+    let len = ap (λ l. c.args.row * l) c.row_len-len.ensures in
     omega (arith, len, sector_below t c.args.row c.loop-index.index (omega arith) (omega arith))
 
 pub loop-index-preserved : goal.loop-index-preserved
@@ -27,8 +27,8 @@ loop-index-preserved g c =
     let s = g.Old.Layout.geometry c.args.source.now in
     let t = g.New.Layout.geometry c.args.target.now in
     let row : ℕ → ℕ = λ k. sector_need_lem s t c.args.size (c.args.row * t.row_len + k) in
-    most_more row c.loop-index.index c.loop-index.most c.sector-need.result c.max-most.result c.loop-index.invariant
-    (c.sector-need.ensures ∙ ap (λ l. sector_need_lem s t c.args.size (c.args.row * l + c.loop-index.index)) c.row-len-len.ensures) c.max-most.ensures
+    most_more row c.loop-index.index c.loop-index.most c.sector_need.result c.max-most.result c.loop-index.invariant
+    (c.sector_need.ensures ∙ ap (λ l. sector_need_lem s t c.args.size (c.args.row * l + c.loop-index.index)) c.row_len-len.ensures) c.max-most.ensures
 
 pub returns : goal.returns
 returns g c =

@@ -2,8 +2,8 @@ use Rattle.std.proofs.Common.{arith}
 use Rattle.shelf.proofs.Sizes.{images_most}
 use Rattle.shelf.proofs.run.fits.Goals as goal
 
-pub overflow-mul-members-2 : goal.overflow-mul-members-2
-overflow-mul-members-2 c = omega (arith, images_most c.args.members c.args.sectors c.args.images (omega arith) (omega arith) (omega arith))
+pub overflow_mul-members-2 : goal.overflow_mul-members-2
+overflow_mul-members-2 c = omega (arith, images_most c.args.members c.args.sectors c.args.images (omega arith) (omega arith) (omega arith))
 
-pub overflow-mul-members-3 : goal.overflow-mul-members-3
-overflow-mul-members-3 c = omega (arith, images_most c.args.members c.args.sectors c.args.images (omega arith) (omega arith) (omega arith))
+pub overflow_mul-members-3 : goal.overflow_mul-members-3
+overflow_mul-members-3 c = omega (arith, images_most c.args.members c.args.sectors c.args.images (omega arith) (omega arith) (omega arith))

@@ -7,5 +7,5 @@ pub returns : goal.returns
 returns c = record {
   size = refl;
   content = with_items_is c.args.run.now c.store.new.run (omega arith)
-      ∙ (c.store.ensures ∙ ap (λ r. sector_put r c.args.at c.args.buffer.now) c.deref-mut.ensures.value);
+      ∙ (c.store.ensures ∙ ap (λ r. sector_put r c.args.at c.args.buffer.now) c.deref_mut.ensures.value);
 }

@@ -4,5 +4,5 @@ use Rattle.shelf.proofs.run.store.Goals as goal
 
 pub returns : goal.returns
 returns c =
-    put_mid-paste (c.args.at * 512) (c.args.at * 512 + 512 - c.args.at * 512) c.args.run.now c.copy-from-slice.new.self
-    c.args.buffer.now 512 c.copy-from-slice.ensures.after (omega arith) (sym c.requires.long)
+    put_mid-paste (c.args.at * 512) (c.args.at * 512 + 512 - c.args.at * 512) c.args.run.now c.copy_from_slice.new.self
+    c.args.buffer.now 512 c.copy_from_slice.ensures.after (omega arith) (sym c.requires.long)

@@ -7,5 +7,5 @@ pub returns : goal.returns
 returns c = record {
   size = refl;
   content = brought_as _ _ _ _ _ (vec_items c.args.bytes.now) _ _
-      c.deref-mut.ensures.value (with_items_is c.args.bytes.now c.bring-out.new.images (omega (arith, c.bring-out.ensures.long))) c.bring-out.ensures;
+      c.deref_mut.ensures.value (with_items_is c.args.bytes.now c.bring_out.new.images (omega (arith, c.bring_out.ensures.alone.long))) c.bring_out.ensures.alone;
 }

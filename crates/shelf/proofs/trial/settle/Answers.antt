@@ -7,5 +7,5 @@ pub returns : goal.returns
 returns c = record {
   size = refl;
   content = pulled_as _ _ _ _ (vec_items c.args.bytes.now) _ _
-      c.deref-mut.ensures.value (with_items_is c.args.bytes.now c.pull-member.new.images (omega (arith, c.pull-member.ensures.long))) c.pull-member.ensures;
+      c.deref_mut.ensures.value (with_items_is c.args.bytes.now c.pull_member.new.images (omega (arith, c.pull_member.ensures.long))) c.pull_member.ensures;
 }

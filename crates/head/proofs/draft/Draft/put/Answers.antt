@@ -2,8 +2,8 @@ use Rattle.std.proofs.Common.{refl, arith}
 use Rattle.head.proofs.Drafts.{put_rest, put_bytes}
 use Rattle.head.proofs.draft.Draft.put.Goals as goal
 
-pub invariant-of-self : goal.invariant-of-self
-invariant-of-self c = (
+pub invariant_of-self : goal.invariant_of-self
+invariant_of-self c = (
   omega arith,
   (
     put_rest c.args.self.now.len c.args.self.now.bytes c.args.bytes.now c.copy-from-slice.new.self
@@ -14,7 +14,7 @@ invariant-of-self c = (
 
 pub returns : goal.returns
 returns c = record {
-  bytes = put_bytes c.args.self.now.len c.args.self.now.bytes c.args.bytes.now c.copy-from-slice.new.self
-      (omega arith) (omega arith) c.copy-from-slice.ensures.after;
+  bytes = put_bytes c.args.self.now.len c.args.self.now.bytes c.args.bytes.now c.copy_from_slice.new.self
+      (omega arith) (omega arith) c.copy_from_slice.ensures.after;
   len = refl;
 }

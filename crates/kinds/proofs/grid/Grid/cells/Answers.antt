@@ -3,8 +3,8 @@ use Rattle.kinds.specs.Bounds.{cells_most}
 use Rattle.kinds.specs.CellsLemmas.{product_least}
 use Rattle.kinds.proofs.grid.Grid.cells.Goals as goal
 
-pub overflow-mul-result : goal.overflow-mul-result
-overflow-mul-result c = omega (arith, cells_most c.args.self.now)
+pub overflow_mul-result : goal.overflow_mul-result
+overflow_mul-result c = omega (arith, cells_most c.args.self.now)
 
 pub returns : goal.returns
 returns c =

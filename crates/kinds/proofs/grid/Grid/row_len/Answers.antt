@@ -3,8 +3,8 @@ use Rattle.std.proofs.lemmas.Nat.{mul-le}
 use Rattle.kinds.specs.CellsLemmas.{product_some}
 use Rattle.kinds.proofs.grid.Grid.row_len.Goals as goal
 
-pub overflow-mul-result : goal.overflow-mul-result
-overflow-mul-result c =
+pub overflow_mul-result : goal.overflow_mul-result
+overflow_mul-result c =
     let g = c.args.self.now in
     omega (arith, mul-le g.chunk c.args.columns 2048 16 (omega arith) (omega arith))
 

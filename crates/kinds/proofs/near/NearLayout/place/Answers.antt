@@ -14,11 +14,11 @@ cell l i j h k =
     copy_below (i / g.chunk) l.copies j (g.chunks * g.members)
     (div_below i g.chunk (g.chunks * g.members / l.copies) (omega arith) (omega arith)) k
 
-pub overflow-mul-number : goal.overflow-mul-number
-overflow-mul-number c = omega (arith, cells_most c.args.self.now.grid, cell c.args.self.now c.args.sector c.args.copy (omega arith) (omega arith))
+pub overflow_mul-number : goal.overflow_mul-number
+overflow_mul-number c = omega (arith, cells_most c.args.self.now.grid, cell c.args.self.now c.args.sector c.args.copy (omega arith) (omega arith))
 
-pub overflow-add-number : goal.overflow-add-number
-overflow-add-number c = omega (arith, cells_most c.args.self.now.grid, cell c.args.self.now c.args.sector c.args.copy (omega arith) (omega arith))
+pub overflow_add-number : goal.overflow_add-number
+overflow_add-number c = omega (arith, cells_most c.args.self.now.grid, cell c.args.self.now c.args.sector c.args.copy (omega arith) (omega arith))
 
 pub deal-requires : goal.deal-requires
 deal-requires c = cell c.args.self.now c.args.sector c.args.copy (omega arith) (omega arith)
