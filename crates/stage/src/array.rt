@@ -18,7 +18,7 @@ pub struct Array<L> {
 
 // 1 for a member that is absent.
 fn missing<S: Shelf>(shelf: &S, member: u64) -> u64
-    ensures count { result ≡ (if (meaning shelf.now).present member then 0 else 1) }
+    ensures count { result ≡ (if (S.meaning shelf.now).present member then 0 else 1) }
     ensures one { result ≤ 1 }
 {
     if shelf.is_present(member) { 0 } else { 1 }
@@ -26,7 +26,7 @@ fn missing<S: Shelf>(shelf: &S, member: u64) -> u64
 
 // How many of the first members are absent.
 fn absent_below<S: Shelf>(shelf: &S, end: u64) -> u64
-    ensures { result ≡ absent_of (meaning shelf.now).present end }
+    ensures { result ≡ absent_of (S.meaning shelf.now).present end }
 {
     let mut absent: u64 = 0;
     for member in 0..end {
@@ -37,7 +37,7 @@ fn absent_below<S: Shelf>(shelf: &S, end: u64) -> u64
 
 // Whether a layout has every sector with the members that are absent. Members that the shelf has not are not absent.
 pub fn bears<S: Shelf, L: Layout>(shelf: &S, layout: &L) -> bool
-    ensures { result ≡ borne (geometry layout.now) (meaning shelf.now) }
+    ensures { result ≡ borne (L.geometry layout.now) (S.meaning shelf.now) }
 {
     absent_below(shelf, u64::min(layout.members(), shelf.members())) <= layout.loss()
 }
@@ -45,7 +45,7 @@ pub fn bears<S: Shelf, L: Layout>(shelf: &S, layout: &L) -> bool
 impl<L: Layout> Array<L> {
     // Whether enough members are present for the layouts in force.
     pub fn enough<S: Shelf>(&self, shelf: &S) -> bool
-        ensures { result ≡ enough (crew self.now.phase (geometry self.now.source) (geometry self.now.target)) (meaning shelf.now) }
+        ensures { result ≡ enough (crew self.now.phase (L.geometry self.now.source) (L.geometry self.now.target)) (S.meaning shelf.now) }
     {
         match self.phase {
             Phase::Before => bears(shelf, &self.source),

@@ -19,7 +19,7 @@ impl<L: Layout> Array<L> {
         progress: Progress,
         armed: Option<u64>,
     ) -> Result<(), Refused>
-        ensures stage { Checkpointed (crew self.old.phase (geometry self.old.source) (geometry self.old.target)) source progress armed self.old.head self.new.head (meaning shelf.old) (meaning shelf.new) result }
+        ensures stage { Checkpointed (crew self.old.phase (L.geometry self.old.source) (L.geometry self.old.target)) source progress armed self.old.head self.new.head (S.meaning shelf.old) (S.meaning shelf.new) result }
         ensures source { self.new.source ≡ self.old.source }
         ensures target { self.new.target ≡ self.old.target }
         ensures phase { self.new.phase ≡ self.old.phase }

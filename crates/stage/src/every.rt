@@ -22,7 +22,7 @@ impl<L: Layout> Array<L> {
         sector: u64,
         content: &Sector,
     ) -> Result<(), Refused>
-        ensures { Stage (crew self.now.phase (geometry self.now.source) (geometry self.now.target)) (AtSector sector content.now) (OnSector Write (meaning shelf.old) sector) (meaning shelf.old) (meaning shelf.new) (λ _. WrittenAll sector content.now (meaning shelf.new)) result }
+        ensures { Stage (crew self.now.phase (L.geometry self.now.source) (L.geometry self.now.target)) (AtSector sector content.now) (OnSector Write (S.meaning shelf.old) sector) (S.meaning shelf.old) (S.meaning shelf.new) (λ _. WrittenAll sector content.now (S.meaning shelf.new)) result }
     {
         for member in 0..shelf.members() {
             self.write_at(shelf, member, sector, content)?;
@@ -32,7 +32,7 @@ impl<L: Layout> Array<L> {
 
     // Settles what is current on every present member.
     pub fn flush_all<S: Shelf>(&self, shelf: &mut S) -> Result<(), Refused>
-        ensures { Stage (crew self.now.phase (geometry self.now.source) (geometry self.now.target)) nothing (OnSector Flush (meaning shelf.old) 0) (meaning shelf.old) (meaning shelf.new) (λ _. FlushedAll (meaning shelf.new)) result }
+        ensures { Stage (crew self.now.phase (L.geometry self.now.source) (L.geometry self.now.target)) nothing (OnSector Flush (S.meaning shelf.old) 0) (S.meaning shelf.old) (S.meaning shelf.new) (λ _. FlushedAll (S.meaning shelf.new)) result }
     {
         for member in 0..shelf.members() {
             self.flush_at(shelf, member)?;
@@ -47,7 +47,7 @@ impl<L: Layout> Array<L> {
         sector: u64,
         content: &mut Sector,
     ) -> Result<bool, Refused>
-        ensures { Stage (crew self.now.phase (geometry self.now.source) (geometry self.now.target)) nothing (OnSector Read (meaning shelf.old) sector) (meaning shelf.old) (meaning shelf.new) (λ could. ReadAny sector content.new (meaning shelf.new) could) result }
+        ensures { Stage (crew self.now.phase (L.geometry self.now.source) (L.geometry self.now.target)) nothing (OnSector Read (S.meaning shelf.old) sector) (S.meaning shelf.old) (S.meaning shelf.new) (λ could. ReadAny sector content.new (S.meaning shelf.new) could) result }
     {
         for member in 0..shelf.members() {
             if self.read_at(shelf, member, sector, content)? {
@@ -59,7 +59,7 @@ impl<L: Layout> Array<L> {
 
     // Makes a head the last one on every present member.
     pub fn spread<S: Shelf>(&self, shelf: &mut S, head: &Head) -> Result<(), Refused>
-        ensures { Stage (crew self.now.phase (geometry self.now.source) (geometry self.now.target)) (AtSector 0 (head_bytes head.now)) (OnHeads (meaning shelf.old)) (meaning shelf.old) (meaning shelf.new) (λ _. Spread 0 (head_bytes head.now) (meaning shelf.new)) result }
+        ensures { Stage (crew self.now.phase (L.geometry self.now.source) (L.geometry self.now.target)) (AtSector 0 (head_bytes head.now)) (OnHeads (S.meaning shelf.old)) (S.meaning shelf.old) (S.meaning shelf.new) (λ _. Spread 0 (head_bytes head.now) (S.meaning shelf.new)) result }
     {
         self.write_all(shelf, HEAD_AT, &head.encode())?;
         self.flush_all(shelf)

@@ -10,7 +10,7 @@ use overlap::walk::{Home, Walk};
 impl<L: Layout> Array<L> {
     // How far the move has come.
     pub fn walk(&self) -> Walk
-        ensures { WalkOf (geometry self.now.source) (geometry self.now.target) self.now.head result }
+        ensures { WalkOf (L.geometry self.now.source) (L.geometry self.now.target) self.now.head result }
     {
         let (settled, kept) = match self.head.progress {
             Progress::Idle => (0, 0),

@@ -17,7 +17,7 @@ use shelf::{Answer, Shelf};
 impl<L: Layout> Array<L> {
     // Goes on without a member that is gone, if those left are enough.
     fn bear<S: Shelf>(&self, shelf: &S, fault: Fault) -> Result<(), Refused>
-        ensures { Bears (crew self.now.phase (geometry self.now.source) (geometry self.now.target)) fault (meaning shelf.now) result }
+        ensures { Bears (crew self.now.phase (L.geometry self.now.source) (L.geometry self.now.target)) fault (S.meaning shelf.now) result }
     {
         if self.enough(shelf) {
             Ok(())
@@ -34,8 +34,8 @@ impl<L: Layout> Array<L> {
         sector: u64,
         content: &Sector,
     ) -> Result<(), Refused>
-        ensures stage { Stage (crew self.now.phase (geometry self.now.source) (geometry self.now.target)) (AtCell member sector content.now) (OnCell Write member sector) (meaning shelf.old) (meaning shelf.new) (λ _. WrittenAt member sector content.now (meaning shelf.new)) result }
-        ensures others { Others member (meaning shelf.old) (meaning shelf.new) }
+        ensures stage { Stage (crew self.now.phase (L.geometry self.now.source) (L.geometry self.now.target)) (AtCell member sector content.now) (OnCell Write member sector) (S.meaning shelf.old) (S.meaning shelf.new) (λ _. WrittenAt member sector content.now (S.meaning shelf.new)) result }
+        ensures others { Others member (S.meaning shelf.old) (S.meaning shelf.new) }
     {
         if !shelf.is_present(member) {
             return Ok(());
@@ -61,8 +61,8 @@ impl<L: Layout> Array<L> {
         sector: u64,
         content: &mut Sector,
     ) -> Result<bool, Refused>
-        ensures stage { Stage (crew self.now.phase (geometry self.now.source) (geometry self.now.target)) nothing (OnCell Read member sector) (meaning shelf.old) (meaning shelf.new) (λ could. ReadAt member sector content.new (meaning shelf.new) could) result }
-        ensures others { Others member (meaning shelf.old) (meaning shelf.new) }
+        ensures stage { Stage (crew self.now.phase (L.geometry self.now.source) (L.geometry self.now.target)) nothing (OnCell Read member sector) (S.meaning shelf.old) (S.meaning shelf.new) (λ could. ReadAt member sector content.new (S.meaning shelf.new) could) result }
+        ensures others { Others member (S.meaning shelf.old) (S.meaning shelf.new) }
     {
         if !shelf.is_present(member) {
             return Ok(false);
@@ -85,8 +85,8 @@ impl<L: Layout> Array<L> {
 
     // Flushes a member, if it is present.
     pub fn flush_at<S: Shelf>(&self, shelf: &mut S, member: u64) -> Result<(), Refused>
-        ensures stage { Stage (crew self.now.phase (geometry self.now.source) (geometry self.now.target)) nothing (OnCell Flush member 0) (meaning shelf.old) (meaning shelf.new) (λ _. FlushedAt member (meaning shelf.new)) result }
-        ensures others { Others member (meaning shelf.old) (meaning shelf.new) }
+        ensures stage { Stage (crew self.now.phase (L.geometry self.now.source) (L.geometry self.now.target)) nothing (OnCell Flush member 0) (S.meaning shelf.old) (S.meaning shelf.new) (λ _. FlushedAt member (S.meaning shelf.new)) result }
+        ensures others { Others member (S.meaning shelf.old) (S.meaning shelf.new) }
     {
         if !shelf.is_present(member) {
             return Ok(());

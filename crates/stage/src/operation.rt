@@ -5,19 +5,19 @@ use sector::Sector;
 use shelf::{Answer, Shelf};
 
 pub(crate) fn put<S: Shelf>(shelf: &mut S, member: u64, sector: u64, content: &Sector) -> Answer
-    ensures { PutAt member sector content.now (meaning shelf.old) (meaning shelf.new) result }
+    ensures { PutAt member sector content.now (S.meaning shelf.old) (S.meaning shelf.new) result }
 {
     shelf.write(member, sector, content)
 }
 
 pub(crate) fn get<S: Shelf>(shelf: &mut S, member: u64, sector: u64, content: &mut Sector) -> Answer
-    ensures { GotAt member sector content.old content.new (meaning shelf.old) (meaning shelf.new) result }
+    ensures { GotAt member sector content.old content.new (S.meaning shelf.old) (S.meaning shelf.new) result }
 {
     shelf.read(member, sector, content)
 }
 
 pub(crate) fn flush<S: Shelf>(shelf: &mut S, member: u64) -> Answer
-    ensures { SettledAt member (meaning shelf.old) (meaning shelf.new) result }
+    ensures { SettledAt member (S.meaning shelf.old) (S.meaning shelf.new) result }
 {
     shelf.flush(member)
 }

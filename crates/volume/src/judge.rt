@@ -21,7 +21,7 @@ use stage::phase::Phase;
 
 // Whether a shelf is in its limits.
 fn is_in_limits<S: Shelf>(shelf: &S) -> bool
-    ensures { result ≡ in_limits (meaning shelf.now) }
+    ensures { result ≡ in_limits (S.meaning shelf.now) }
 {
     let members = shelf.members();
     let sectors = shelf.sectors();
@@ -31,7 +31,7 @@ fn is_in_limits<S: Shelf>(shelf: &S) -> bool
 
 // Whether a layout, the slots before it and a volume of this size fit the shelf.
 pub fn fits<S: Shelf, L: Layout>(shelf: &S, layout: &L, backup: u32, size: u64) -> bool
-    ensures { result ≡ room (meaning shelf.now) (geometry layout.now) backup size }
+    ensures { result ≡ room (S.meaning shelf.now) (L.geometry layout.now) backup size }
 {
     is_in_limits(shelf)
         && (layout.members() <= shelf.members()
@@ -42,7 +42,7 @@ pub fn fits<S: Shelf, L: Layout>(shelf: &S, layout: &L, backup: u32, size: u64) 
 impl<S: Shelf, L: Layout> Volume<S, L> {
     // Power, members, and whether the call is one for the phase.
     fn admit(&self, call: Call) -> Result<(), Refusal>
-        ensures { Judged (admission call (volume self.now.array.phase (geometry self.now.array.source) (geometry self.now.array.target) self.now.array.head self.now.hand) (meaning self.now.shelf)) result }
+        ensures { Judged (admission call (volume self.now.array.phase (L.geometry self.now.array.source) (L.geometry self.now.array.target) self.now.array.head self.now.hand) (S.meaning self.now.shelf)) result }
     {
         if let Phase::Shut(refusal) = self.array.phase {
             return Err(refusal);
@@ -67,7 +67,7 @@ impl<S: Shelf, L: Layout> Volume<S, L> {
 
     // Whether so many checkpoints can still be numbered.
     fn numbered(&self, checkpoints: u64) -> Result<(), Refusal>
-        ensures { Judged (if spent (volume self.now.array.phase (geometry self.now.array.source) (geometry self.now.array.target) self.now.array.head self.now.hand) checkpoints then Some NumbersSpent else None) result }
+        ensures { Judged (if spent (volume self.now.array.phase (L.geometry self.now.array.source) (L.geometry self.now.array.target) self.now.array.head self.now.hand) checkpoints then Some NumbersSpent else None) result }
     {
         if self.array.head.numbers_left() < checkpoints {
             return Err(Refusal::NumbersSpent);
@@ -76,7 +76,7 @@ impl<S: Shelf, L: Layout> Volume<S, L> {
     }
 
     pub(crate) fn judge_create(&self, backup: u32, size: u64) -> Result<(), Refusal>
-        ensures verdict { Judged (create_verdict (named self.now.array.source) (geometry self.now.array.source) (meaning self.now.shelf) backup size) result }
+        ensures verdict { Judged (create_verdict (L.named self.now.array.source) (L.geometry self.now.array.source) (S.meaning self.now.shelf) backup size) result }
         ensures slots { OnOk result ((1 ≤ backup) × (backup ≤ 4096)) }
     {
         let source = &self.array.source;
@@ -98,7 +98,7 @@ impl<S: Shelf, L: Layout> Volume<S, L> {
 
     // A read or a write of a sector, by a buffer of some length.
     fn judge_access(&self, sector: u64, length: usize) -> Result<(), Refusal>
-        ensures verdict { Judged (access_verdict (volume self.now.array.phase (geometry self.now.array.source) (geometry self.now.array.target) self.now.array.head self.now.hand) sector length) result }
+        ensures verdict { Judged (access_verdict (volume self.now.array.phase (L.geometry self.now.array.source) (L.geometry self.now.array.target) self.now.array.head self.now.hand) sector length) result }
         ensures long { OnOk result (length ≡ 512) }
     {
         if length != SECTOR {
@@ -111,7 +111,7 @@ impl<S: Shelf, L: Layout> Volume<S, L> {
     }
 
     pub(crate) fn judge_read(&self, sector: u64, length: usize) -> Result<(), Refusal>
-        ensures verdict { Judged (read_verdict (volume self.now.array.phase (geometry self.now.array.source) (geometry self.now.array.target) self.now.array.head self.now.hand) (meaning self.now.shelf) sector length) result }
+        ensures verdict { Judged (read_verdict (volume self.now.array.phase (L.geometry self.now.array.source) (L.geometry self.now.array.target) self.now.array.head self.now.hand) (S.meaning self.now.shelf) sector length) result }
         ensures long { OnOk result (length ≡ 512) }
     {
         self.admit(Call::Read)?;
@@ -119,7 +119,7 @@ impl<S: Shelf, L: Layout> Volume<S, L> {
     }
 
     pub(crate) fn judge_write(&self, sector: u64, length: usize) -> Result<(), Refusal>
-        ensures { Judged (write_verdict (volume self.now.array.phase (geometry self.now.array.source) (geometry self.now.array.target) self.now.array.head self.now.hand) (meaning self.now.shelf) sector length) result }
+        ensures { Judged (write_verdict (volume self.now.array.phase (L.geometry self.now.array.source) (L.geometry self.now.array.target) self.now.array.head self.now.hand) (S.meaning self.now.shelf) sector length) result }
     {
         self.admit(Call::Write)?;
         self.judge_access(sector, length)?;
@@ -133,8 +133,8 @@ impl<S: Shelf, L: Layout> Volume<S, L> {
 
     // Answers the overlap distance where begin may go on.
     pub(crate) fn judge_begin(&self) -> Result<u64, Refusal>
-        ensures verdict { Judged (begin_verdict (named self.now.array.target) (volume self.now.array.phase (geometry self.now.array.source) (geometry self.now.array.target) self.now.array.head self.now.hand) (meaning self.now.shelf)) result }
-        ensures distance { IfOk result (λ d. d ≡ distance_of (geometry self.now.array.source) (geometry self.now.array.target) self.now.array.head.size) }
+        ensures verdict { Judged (begin_verdict (L.named self.now.array.target) (volume self.now.array.phase (L.geometry self.now.array.source) (L.geometry self.now.array.target) self.now.array.head self.now.hand) (S.meaning self.now.shelf)) result }
+        ensures distance { IfOk result (λ d. d ≡ distance_of (L.geometry self.now.array.source) (L.geometry self.now.array.target) self.now.array.head.size) }
     {
         self.admit(Call::Begin)?;
         let head = &self.array.head;
@@ -151,7 +151,7 @@ impl<S: Shelf, L: Layout> Volume<S, L> {
     }
 
     pub(crate) fn judge_keep(&self) -> Result<(), Refusal>
-        ensures { Judged (keep_verdict (volume self.now.array.phase (geometry self.now.array.source) (geometry self.now.array.target) self.now.array.head self.now.hand) (meaning self.now.shelf)) result }
+        ensures { Judged (keep_verdict (volume self.now.array.phase (L.geometry self.now.array.source) (L.geometry self.now.array.target) self.now.array.head self.now.hand) (S.meaning self.now.shelf)) result }
     {
         self.admit(Call::Keep)?;
         let walk = self.array.walk();
@@ -165,7 +165,7 @@ impl<S: Shelf, L: Layout> Volume<S, L> {
     }
 
     pub(crate) fn judge_copy(&self) -> Result<(), Refusal>
-        ensures { Judged (copy_verdict (volume self.now.array.phase (geometry self.now.array.source) (geometry self.now.array.target) self.now.array.head self.now.hand) (meaning self.now.shelf)) result }
+        ensures { Judged (copy_verdict (volume self.now.array.phase (L.geometry self.now.array.source) (L.geometry self.now.array.target) self.now.array.head self.now.hand) (S.meaning self.now.shelf)) result }
     {
         self.admit(Call::Copy)?;
         if self.hand.is_some() {
@@ -188,7 +188,7 @@ impl<S: Shelf, L: Layout> Volume<S, L> {
     }
 
     pub(crate) fn judge_settle(&self, row: u64) -> Result<(), Refusal>
-        ensures { Judged (settle_verdict (volume self.now.array.phase (geometry self.now.array.source) (geometry self.now.array.target) self.now.array.head self.now.hand) (meaning self.now.shelf) row) result }
+        ensures { Judged (settle_verdict (volume self.now.array.phase (L.geometry self.now.array.source) (L.geometry self.now.array.target) self.now.array.head self.now.hand) (S.meaning self.now.shelf) row) result }
     {
         self.admit(Call::Settle)?;
         if self.hand != Some(row) {
@@ -198,7 +198,7 @@ impl<S: Shelf, L: Layout> Volume<S, L> {
     }
 
     pub(crate) fn judge_finish(&self) -> Result<(), Refusal>
-        ensures { Judged (finish_verdict (volume self.now.array.phase (geometry self.now.array.source) (geometry self.now.array.target) self.now.array.head self.now.hand) (meaning self.now.shelf)) result }
+        ensures { Judged (finish_verdict (volume self.now.array.phase (L.geometry self.now.array.source) (L.geometry self.now.array.target) self.now.array.head self.now.hand) (S.meaning self.now.shelf)) result }
     {
         self.admit(Call::Finish)?;
         if self.array.walk().settled < self.array.target.rows() {
@@ -209,7 +209,7 @@ impl<S: Shelf, L: Layout> Volume<S, L> {
 
     // Whether a head that was found can be opened on this shelf with these layouts.
     pub(crate) fn judge_head(&self, head: &Head) -> Result<(), Refusal>
-        ensures { Judged (head_verdict head.now (meaning self.now.shelf) (named self.now.array.source) (named self.now.array.target) (geometry self.now.array.source) (geometry self.now.array.target)) result }
+        ensures { Judged (head_verdict head.now (S.meaning self.now.shelf) (L.named self.now.array.source) (L.named self.now.array.target) (L.geometry self.now.array.source) (L.geometry self.now.array.target)) result }
     {
         if !self.names_layouts(head) {
             return Err(Refusal::LabelsDiffer);
@@ -227,14 +227,14 @@ impl<S: Shelf, L: Layout> Volume<S, L> {
     }
 
     fn names_layouts(&self, head: &Head) -> bool
-        ensures { result ≡ names_layouts_lem head.now (named self.now.array.source) (named self.now.array.target) }
+        ensures { result ≡ names_layouts_lem head.now (L.named self.now.array.source) (L.named self.now.array.target) }
     {
         is_same(&head.source, &self.array.source.label()) && self.names_target(head.progress)
     }
 
     // An idle head names the source only.
     fn names_target(&self, progress: Progress) -> bool
-        ensures { result ≡ names_target_lem progress (named self.now.array.target) }
+        ensures { result ≡ names_target_lem progress (L.named self.now.array.target) }
     {
         match progress {
             Progress::Idle => true,
@@ -244,7 +244,7 @@ impl<S: Shelf, L: Layout> Volume<S, L> {
 
     // Whether the head's numbers can be those of a volume on these layouts.
     fn fits_layouts(&self, head: &Head) -> bool
-        ensures { result ≡ head_fits head.now (meaning self.now.shelf) (geometry self.now.array.source) (geometry self.now.array.target) }
+        ensures { result ≡ head_fits head.now (S.meaning self.now.shelf) (L.geometry self.now.array.source) (L.geometry self.now.array.target) }
     {
         is_of_volume(head.armed, head.size)
             && (fits(&self.shelf, &self.array.source, head.backup, head.size)
@@ -252,7 +252,7 @@ impl<S: Shelf, L: Layout> Volume<S, L> {
     }
 
     fn fits_progress(&self, head: &Head) -> bool
-        ensures { result ≡ progress_fits head.now.progress (meaning self.now.shelf) (geometry self.now.array.source) (geometry self.now.array.target) head.now.size head.now.backup }
+        ensures { result ≡ progress_fits head.now.progress (S.meaning self.now.shelf) (L.geometry self.now.array.source) (L.geometry self.now.array.target) head.now.size head.now.backup }
     {
         match head.progress {
             Progress::Idle => true,
@@ -264,7 +264,7 @@ impl<S: Shelf, L: Layout> Volume<S, L> {
     }
 
     fn fits_walk(&self, size: u64, backup: u32, settled: u64, kept: u64) -> bool
-        ensures { result ≡ walk_fits (geometry self.now.array.source) (geometry self.now.array.target) size backup settled kept }
+        ensures { result ≡ walk_fits (L.geometry self.now.array.source) (L.geometry self.now.array.target) size backup settled kept }
     {
         let walk = Walk {
             source_len: self.array.source.row_len(),
@@ -280,7 +280,7 @@ impl<S: Shelf, L: Layout> Volume<S, L> {
 
     // Whether the layouts that a head has in force bear the losses.
     fn bears_losses(&self, progress: Progress) -> bool
-        ensures { result ≡ progress_borne progress (meaning self.now.shelf) (geometry self.now.array.source) (geometry self.now.array.target) }
+        ensures { result ≡ progress_borne progress (S.meaning self.now.shelf) (L.geometry self.now.array.source) (L.geometry self.now.array.target) }
     {
         match progress {
             Progress::Idle => bears(&self.shelf, &self.array.source),

@@ -45,7 +45,7 @@ impl<S: Shelf, L: Layout> Volume<S, L> {
         backup: u32,
         size: u64,
     ) -> (Volume<S, L>, Result<(), Refused>)
-        ensures verdict { RefusedBy (create_verdict (named source) (geometry source) (meaning shelf) backup size) (result.0.shelf ≡ shelf) result.1 }
+        ensures verdict { RefusedBy (create_verdict (L.named source) (L.geometry source) (S.meaning shelf) backup size) (result.0.shelf ≡ shelf) result.1 }
         ensures shut { ShutBy result.0.array.phase result.1 }
     {
         let mut volume = Volume::unopened(shelf, source, target);
@@ -123,7 +123,7 @@ impl<S: Shelf, L: Layout> Volume<S, L> {
 
     // Reads a sector; where it is refused the buffer stays as it was.
     pub fn read(&mut self, sector: u64, buffer: &mut [u8]) -> Result<(), Refused>
-        ensures verdict { RefusedBy (read_verdict (volume self.old.array.phase (geometry self.old.array.source) (geometry self.old.array.target) self.old.array.head self.old.hand) (meaning self.old.shelf) sector (length buffer.old)) (self.new ≡ self.old) result }
+        ensures verdict { RefusedBy (read_verdict (volume self.old.array.phase (L.geometry self.old.array.source) (L.geometry self.old.array.target) self.old.array.head self.old.hand) (S.meaning self.old.shelf) sector (length buffer.old)) (self.new ≡ self.old) result }
         ensures buffer { OnErr result (buffer.new ≡ buffer.old) }
     {
         self.judge_read(sector, buffer.len())?;
@@ -135,7 +135,7 @@ impl<S: Shelf, L: Layout> Volume<S, L> {
 
     // Writes a sector: into the log, then, with the head armed for it, to every place of its home.
     pub fn write(&mut self, sector: u64, buffer: &[u8]) -> Result<(), Refused>
-        ensures { RefusedBy (write_verdict (volume self.old.array.phase (geometry self.old.array.source) (geometry self.old.array.target) self.old.array.head self.old.hand) (meaning self.old.shelf) sector (length buffer.now)) (self.new ≡ self.old) result }
+        ensures { RefusedBy (write_verdict (volume self.old.array.phase (L.geometry self.old.array.source) (L.geometry self.old.array.target) self.old.array.head self.old.hand) (S.meaning self.old.shelf) sector (length buffer.now)) (self.new ≡ self.old) result }
     {
         self.judge_write(sector, buffer.len())?;
         let Some(datum) = copied(buffer) else {
@@ -150,8 +150,8 @@ impl<S: Shelf, L: Layout> Volume<S, L> {
 
     // Starts the move to the target, and answers the overlap distance.
     pub fn begin(&mut self) -> Result<u64, Refused>
-        ensures verdict { RefusedBy (begin_verdict (named self.old.array.target) (volume self.old.array.phase (geometry self.old.array.source) (geometry self.old.array.target) self.old.array.head self.old.hand) (meaning self.old.shelf)) (self.new ≡ self.old) result }
-        ensures distance { IfOk result (λ d. d ≡ distance_of (geometry self.old.array.source) (geometry self.old.array.target) self.old.array.head.size) }
+        ensures verdict { RefusedBy (begin_verdict (L.named self.old.array.target) (volume self.old.array.phase (L.geometry self.old.array.source) (L.geometry self.old.array.target) self.old.array.head self.old.hand) (S.meaning self.old.shelf)) (self.new ≡ self.old) result }
+        ensures distance { IfOk result (λ d. d ≡ distance_of (L.geometry self.old.array.source) (L.geometry self.old.array.target) self.old.array.head.size) }
     {
         let distance = self.judge_begin()?;
         self.checkpoint_progress(0, 0)?;
@@ -161,7 +161,7 @@ impl<S: Shelf, L: Layout> Volume<S, L> {
 
     // Saves the next source row into the backup slots.
     pub fn keep(&mut self) -> Result<(), Refused>
-        ensures { RefusedBy (keep_verdict (volume self.old.array.phase (geometry self.old.array.source) (geometry self.old.array.target) self.old.array.head self.old.hand) (meaning self.old.shelf)) (self.new ≡ self.old) result }
+        ensures { RefusedBy (keep_verdict (volume self.old.array.phase (L.geometry self.old.array.source) (L.geometry self.old.array.target) self.old.array.head self.old.hand) (S.meaning self.old.shelf)) (self.new ≡ self.old) result }
     {
         self.judge_keep()?;
         let row = self.kept();
@@ -173,7 +173,7 @@ impl<S: Shelf, L: Layout> Volume<S, L> {
 
     // Writes the next target row, and grants to settle it.
     pub fn copy(&mut self) -> Result<Grant, Refused>
-        ensures { RefusedBy (copy_verdict (volume self.old.array.phase (geometry self.old.array.source) (geometry self.old.array.target) self.old.array.head self.old.hand) (meaning self.old.shelf)) (self.new ≡ self.old) result }
+        ensures { RefusedBy (copy_verdict (volume self.old.array.phase (L.geometry self.old.array.source) (L.geometry self.old.array.target) self.old.array.head self.old.hand) (S.meaning self.old.shelf)) (self.new ≡ self.old) result }
     {
         self.judge_copy()?;
         let walk = self.array.walk();
@@ -189,7 +189,7 @@ impl<S: Shelf, L: Layout> Volume<S, L> {
 
     // Makes the granted row the home of its sectors. A grant of the row in hand empties the hand in any case.
     pub fn settle(&mut self, grant: Grant) -> Result<(), Refused>
-        ensures { RefusedBy (settle_verdict (volume self.old.array.phase (geometry self.old.array.source) (geometry self.old.array.target) self.old.array.head self.old.hand) (meaning self.old.shelf) grant.row) ((self.new.array ≡ self.old.array) × ((self.new.shelf ≡ self.old.shelf) × (self.new.hand ≡ emptied self.old.hand grant.row))) result }
+        ensures { RefusedBy (settle_verdict (volume self.old.array.phase (L.geometry self.old.array.source) (L.geometry self.old.array.target) self.old.array.head self.old.hand) (S.meaning self.old.shelf) grant.row) ((self.new.array ≡ self.old.array) × ((self.new.shelf ≡ self.old.shelf) × (self.new.hand ≡ emptied self.old.hand grant.row))) result }
     {
         let row = grant.spend();
         let verdict = self.judge_settle(row);
@@ -218,7 +218,7 @@ impl<S: Shelf, L: Layout> Volume<S, L> {
 
     // Ends the move: the target is the volume's layout from here on.
     pub fn finish(&mut self) -> Result<Finished, Refused>
-        ensures { RefusedBy (finish_verdict (volume self.old.array.phase (geometry self.old.array.source) (geometry self.old.array.target) self.old.array.head self.old.hand) (meaning self.old.shelf)) (self.new ≡ self.old) result }
+        ensures { RefusedBy (finish_verdict (volume self.old.array.phase (L.geometry self.old.array.source) (L.geometry self.old.array.target) self.old.array.head self.old.hand) (S.meaning self.old.shelf)) (self.new ≡ self.old) result }
     {
         self.judge_finish()?;
         let counts = Finished {
@@ -273,7 +273,7 @@ impl<S: Shelf, L: Layout> Volume<S, L> {
 
     // Zeroes the source's places, and only then writes the first head.
     fn lay_out(&mut self, backup: u32, size: u64) -> Result<(), Refused>
-        ensures verdict { RefusedBy (create_verdict (named self.old.array.source) (geometry self.old.array.source) (meaning self.old.shelf) backup size) (self.new ≡ self.old) result }
+        ensures verdict { RefusedBy (create_verdict (L.named self.old.array.source) (L.geometry self.old.array.source) (S.meaning self.old.shelf) backup size) (self.new ≡ self.old) result }
         ensures phase { OnOk result (self.new.array.phase ≡ Before) }
     {
         self.judge_create(backup, size)?;

@@ -7,9 +7,9 @@ use Rattle.drill.proofs.schedule.lose_due.Goals as goal
 
 pub loop-incident-preserved : goal.loop-incident-preserved
 loop-incident-preserved c = (
-  c.lose-one.ensures.meaning ∙ c.loop-incident.invariant.0,
+  c.lose_one.ensures.meaning ∙ c.loop-incident.invariant.0,
   losing_more c.args.shelf.now.members c.loop-incident.shelf.members c.args.clock c.loop-incident.incident-index c.args.incidents.now _ _ c.loop-incident.shelf.controls.losing _
-      c.loop-incident-test.true (ap (λ (a : Meaning). a.members) c.loop-incident.invariant.0) c.loop-incident.invariant.1 c.lose-one.ensures.losing,
+      c.loop-incident-test.true (ap (λ (a : Meaning). a.members) c.loop-incident.invariant.0) c.loop-incident.invariant.1 c.lose_one.ensures.losing,
 )
 
 pub returns : goal.returns

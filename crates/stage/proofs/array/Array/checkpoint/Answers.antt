@@ -4,8 +4,8 @@ use Rattle.stage.specs.Crew.{crew}
 use Rattle.stage.proofs.Chains.{handed_on}
 use Rattle.stage.proofs.array.Array.checkpoint.Goals as goal
 
-pub returns-in-err-spread : goal.returns-in-err-spread
-returns-in-err-spread g c =
+pub returns-in_err-spread : goal.returns-in_err-spread
+returns-in_err-spread g c =
     let met = c.in-err-spread.ensures in
     let h = c.args.self.now.head in
     record {
