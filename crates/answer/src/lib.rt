@@ -1,4 +1,6 @@
 // What a call answers where it is not done: the closed list of refusals, and the fault where power or a member went in the middle of a call.
+#![tactic(auto)]
+
 ghost use Rattle.std.specs.Prelude.{◌≡◌, Some, None};
 ghost use Rattle.answer.specs.Faults.{in_row};
 ghost use Rattle.answer.specs.Numbers.{refusal_number, operation_number};

@@ -1,4 +1,6 @@
 // How long a place, an owner and a distance take. `bench time` measures; without that word nothing is measured, and nothing varies.
+#![tactic(auto)]
+
 mod plain;
 
 use anyhow::anyhow;

@@ -1,5 +1,7 @@
 // Tests of the volume and of all that it stands on: the worked examples of docs/, each refusal, and what cuts and losses leave.
 // A test mostly takes down all answers of a run as numbers and compares them once.
+#![tactic(auto)]
+
 #[cfg(test)]
 mod cuts;
 #[cfg(test)]

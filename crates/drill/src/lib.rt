@@ -1,4 +1,6 @@
 // The drill shelf: a trial shelf whose power can go at every operation, restarts among them, by a schedule.
+#![tactic(auto)]
+
 ghost use Rattle.std.specs.Prelude.{◌≡◌, ◌<◌, true, false, length};
 ghost use Rattle.shelf.specs.Meaning.{Flushed, Ranged, Reads, Restarts, Writes};
 ghost use Rattle.drill.specs.Drills.{Begun, Darkens, DrillRestarts, Drilled, Timed, counted, dark_after, drill_meaning, inner_meaning, power_next, ticked};

@@ -1,4 +1,6 @@
 // The head: the state of a volume as it stands in sector 0 of each member. docs/HEAD.md has its bytes.
+#![tactic(auto)]
+
 mod accept;
 mod checkpoint;
 mod codec;

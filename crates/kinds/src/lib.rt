@@ -1,4 +1,6 @@
 // The stock layouts: striped, left-symmetric parity, near copies and far copies.
+#![tactic(auto)]
+
 pub mod far;
 pub mod grid;
 pub mod kind;

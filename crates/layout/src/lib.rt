@@ -1,4 +1,6 @@
 // Layouts: where the sectors of a volume lie on the members of a shelf.
+#![tactic(auto)]
+
 ghost use Rattle.std.specs.Prelude.{◌≡◌, ◌<◌};
 ghost use Rattle.layout.specs.Geometry.{Geometry, GroupAt, LedAt, Only, capacity as room};
 ghost use Rattle.layout.specs.Labels.{true_label};

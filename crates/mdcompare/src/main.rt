@@ -1,4 +1,6 @@
 // Compares the placements that were recorded from the Linux md driver, one file to an argument, with the stock layouts.
+#![tactic(auto)]
+
 use anyhow::anyhow;
 use cases::worked_examples;
 use std::{env, fs};

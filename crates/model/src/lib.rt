@@ -1,4 +1,6 @@
 // What a volume is to show, by the meaning of its shelf and its layouts alone.
+#![tactic(auto)]
+
 ghost use Rattle.model.specs.Worked.{CountExamples, DiskExamples, HomeExamples, VerdictExamples};
 
 pub mod call;

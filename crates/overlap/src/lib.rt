@@ -1,4 +1,6 @@
 // How far a move's target overlaps its source: which source rows have to be kept before a target row may be written.
+#![tactic(auto)]
+
 ghost use Rattle.std.specs.Prelude.{◌≡◌, ℕ, ◌+◌, ◌-◌, ◌*◌, ◌/◌, ◌<◌, ◌≤◌, min};
 ghost use Rattle.layout.specs.Geometry.{capacity as room};
 ghost use Rattle.overlap.specs.Needs.{ahead_of, distance_of, need_of, place_need_lem, reach_of, row_need_lem, sector_need_lem};

@@ -1,4 +1,6 @@
 // The sector: the 512 bytes that a shelf reads and writes at once.
+#![tactic(auto)]
+
 ghost use Rattle.std.specs.Prelude.{◌≡◌, length, replicate, MatchOption, ◌≢◌, bit_xor};
 ghost use Rattle.sector.specs.Folds.{folded};
 

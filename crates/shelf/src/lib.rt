@@ -1,4 +1,6 @@
 // Shelves: a few members of equally many sectors, which can lose power or a member at every operation.
+#![tactic(auto)]
+
 ghost use Rattle.std.specs.Prelude.{◌≡◌, ℕ, ◌<◌, true};
 ghost use Rattle.shelf.specs.Meaning.{Flushed, Meaning, Reads, Restarts, Writes};
 ghost use Rattle.shelf.specs.Relation.{Allows, Keeps, Repeats};

@@ -4,6 +4,8 @@
 // the sectors of each member that md was given, and the sectors that md made of them. Other lines with `#` are remarks. Then, for the
 // first sector of every chunk, `D sector copy member offset`, and for every chunk of parity `P member offset`. md uses whole chunks only,
 // so the depth is d rounded down to chunks. The recording numbers copies by their places, so what counts is the set of places.
+#![tactic(auto)]
+
 use kinds::stock::Stock;
 use layout::Layout;
 use layout::label::Label;

@@ -1,5 +1,7 @@
 // A volume on a shelf: it is read and written, and moved to another layout, while power and members may go at every operation.
 // docs/CALLS.md has the calls and their refusals, docs/MOVE.md the move.
+#![tactic(auto)]
+
 ghost use Rattle.std.specs.Prelude.{◌≡◌, length, IfOk, OnErr, OnOk};
 ghost use Rattle.stage.specs.declared.phase.Phase.TheVariants.{Before};
 ghost use Rattle.head.specs.Heads.{kept_of, settled_of};

@@ -1,4 +1,6 @@
 // Moves live arrays from one layout to another and tells each step.
+#![tactic(auto)]
+
 mod cuts;
 mod pattern;
 mod steps;

@@ -8,4 +8,4 @@ pub loop-offset-preserved : goal.loop-offset-preserved
 loop-offset-preserved g c =
     let d = c.args.disk.now in
     let next = count_next (is_misplaced (g.L.Layout.geometry c.args.layout.now) (g.S.Shelf.meaning c.args.shelf.now) c.args.backup (disk_of (vec_items d.sectors) d.phase d.settled d.kept d.hand) c.args.member) c.loop-offset.offset in
-    (omega (arith, c.misplaced-at-places.ensures.one), omega (arith, next, c.misplaced-at-places.ensures.count))
+    (omega (arith, c.misplaced_at-places.ensures.one), omega (arith, next, c.misplaced_at-places.ensures.count))

@@ -4,7 +4,7 @@ use Rattle.model.proofs.Looking.{gather_more}
 use Rattle.model.proofs.look.folded_peers.Goals as goal
 
 pub loop-index-preserved : goal.loop-index-preserved
-loop-index-preserved g c = gather_more _ _ c.loop-index.index c.loop-index.content _ c.loop-index.invariant c.fold-peer.ensures
+loop-index-preserved g c = gather_more _ _ c.loop-index.index c.loop-index.content _ c.loop-index.invariant c.fold_peer.ensures
 
 pub returns : goal.returns
 returns g c =

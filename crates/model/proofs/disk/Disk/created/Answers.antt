@@ -2,4 +2,4 @@ use Rattle.model.proofs.Disks.{created_is}
 use Rattle.model.proofs.disk.Disk.created.Goals as goal
 
 pub returns : goal.returns
-returns c = created_is _ c.args.size c.in-ok-sectors.ensures
+returns c = created_is _ c.args.size c.in_ok-sectors.ensures
