@@ -1,6 +1,6 @@
 -- With no sectors there is nothing to keep.
 use mathlib.Core.Path.{◌≡◌, refl}
-use Prim.Native.Nat.{ℕ, zero, suc, ◌*◌, min}
+use Prim.Native.Nat.{ℕ, zero, suc}
 use native.Mathlib.Omega.{arith}
 use Rattle.layout.specs.Geometry.{Geometry}
 use Rattle.overlap.specs.Needs.{ahead_of, distance_of, most, reach_of}

@@ -5,7 +5,6 @@ use Rattle.kinds.specs.Cells.{striped_cells, left_cells, near_cells, far_cells}
 use Rattle.kinds.specs.Chunked.{chunked}
 use Rattle.overlap.specs.Homes.{home_of}
 use Rattle.overlap.specs.Needs.{ahead_of, distance_of, reach_of}
-use Rattle.overlap.specs.declared.walk.Home.{Home}
 use Rattle.overlap.specs.declared.walk.Home.TheVariants.{Source, Target, Backup}
 
 -- parity on 3 members and on 4, chunk 1, depth 8; and on 3 members, chunk 1 and chunk 2, depth 4

@@ -1,13 +1,13 @@
 -- What is lawful for single sectors is lawful for chunks: one argument on quotient and remainder for all kinds.
-use Rattle.std.specs.Prelude.{◌≡◌, ℕ, zero, suc, ◌+◌, ◌*◌, ◌/◌, ◌%◌, ◌<◌, ◌≤◌, refl}
-use Rattle.std.proofs.Common.{sym, ap, subst, ◌∙◌, mul_comm, mul_assoc, mul-zero, add-mul, arith}
+use Rattle.std.specs.Prelude.{◌≡◌, ℕ, zero, suc, ◌+◌, ◌*◌, ◌/◌, ◌%◌, ◌<◌, ◌≤◌}
+use Rattle.std.proofs.Common.{sym, ap, ◌∙◌, mul_comm, mul_assoc, mul-zero, add-mul, arith}
 use Rattle.std.proofs.Math.Nat.{div-div-eq-div-mul}
 use Rattle.std.proofs.lemmas.Nat.{mul-add-lt, div_below, mod_below, div-mul-add, mod-mul-add, div-add-mod', mul-le}
 use Rattle.layout.specs.declared.place.Owner.{Owner}
 use Rattle.layout.specs.declared.place.Owner.TheVariants.{Datum, Parity, Nobody}
 use Rattle.layout.specs.Geometry.{Geometry, capacity, Is, place_of}
 use Rattle.layout.specs.Lawful.{Inside, Owns, Joined, Peer, Placing, Grouping}
-use Rattle.kinds.specs.Chunked.{in_chunk, in_cell, of_chunk, chunked}
+use Rattle.kinds.specs.Chunked.{in_cell, of_chunk, chunked}
 
 -- the chunk of a sector, and of a group
 pub chunk_below : (i c m : ℕ) → 1 ≤ c → i < c * m → i / c < m

@@ -1,10 +1,10 @@
 -- The laws of the four kinds over a grid, and that a label names one layout.
-use Rattle.std.specs.Prelude.{◌≡◌, ℕ, ◌+◌, ◌-◌, ◌*◌, ◌/◌, ◌<◌, ◌≤◌, refl}
+use Rattle.std.specs.Prelude.{◌≡◌, ℕ, ◌-◌, ◌*◌, ◌/◌, ◌≤◌, refl}
 use Rattle.std.proofs.Common.{sym, ap, ◌∙◌, mul_comm, add-zero, div-mul-le_self, arith}
 use Rattle.std.proofs.lemmas.Nat.{mul-le, le-div, div-mul-add}
 use Rattle.layout.specs.declared.label.Label.{Label}
 use Rattle.layout.specs.Geometry.{Geometry}
-use Rattle.layout.specs.Lawful.{Limits, Loss, Lawful}
+use Rattle.layout.specs.Lawful.{Limits, Lawful}
 use Rattle.kinds.specs.Cells.{striped_cells, left_cells, near_cells, far_cells}
 use Rattle.kinds.specs.Chunked.{chunked}
 use Rattle.kinds.specs.Labels.{labelled}

@@ -1,12 +1,12 @@
 -- The laws of places of the kinds without parity, at chunks of one sector.
-use Rattle.std.specs.Prelude.{◌≡◌, ℕ, ◌+◌, ◌-◌, ◌*◌, ◌/◌, ◌%◌, ◌<◌, ◌≤◌, cond, nat_lt, refl}
-use Rattle.std.proofs.Common.{sym, ap, ◌∙◌, div-mul-le_self, mul_comm, add_assoc, arith}
+use Rattle.std.specs.Prelude.{◌≡◌, ℕ, ◌+◌, ◌-◌, ◌*◌, ◌/◌, ◌%◌, ◌<◌, ◌≤◌, nat_lt}
+use Rattle.std.proofs.Common.{ap, ◌∙◌, div-mul-le_self, mul_comm, add_assoc, arith}
 use Rattle.std.proofs.Math.Nat.{mul-add-mod_self_right}
 use Rattle.std.proofs.lemmas.Nat.{mul-add-lt, div_below, mod_below, div-mul-add, mod-mul-add, div-add-mod'}
 use Rattle.std.proofs.lemmas.Bool.{cond_both, cond-true, lt-ltb, ltb-true}
 use Rattle.layout.specs.declared.place.Owner.{Owner}
 use Rattle.layout.specs.declared.place.Owner.TheVariants.{Datum, Parity, Nobody}
-use Rattle.layout.specs.Geometry.{Geometry, capacity, Is, place_of}
+use Rattle.layout.specs.Geometry.{Geometry, Is, place_of}
 use Rattle.layout.specs.Lawful.{Inside, Owns, Placing}
 use Rattle.kinds.specs.Cells.{on_grid, striped_cells, near_cells, far_cells}
 use Rattle.kinds.specs.Turns.{turns_apart, turn_back, turn_forth}

@@ -1,13 +1,13 @@
 -- The laws of the left-symmetric kind, at chunks of one sector.
-use Rattle.std.specs.Prelude.{◌≡◌, ℕ, ◌+◌, ◌-◌, ◌*◌, ◌/◌, ◌%◌, ◌<◌, ◌≤◌, cond, ◌==◌, ◌≢◌, refl}
+use Rattle.std.specs.Prelude.{◌≡◌, ℕ, ◌+◌, ◌-◌, ◌*◌, ◌/◌, ◌%◌, ◌<◌, ◌≤◌, ◌==◌, ◌≢◌, refl}
 use Rattle.std.proofs.Common.{sym, ap, ◌∙◌, inl, inr, mul_comm, arith}
 use Rattle.std.proofs.lemmas.Nat.{mul-add-lt, div_below, mod_below, div-mul-add, mod-mul-add, div-add-mod'}
 use Rattle.std.proofs.lemmas.Bool.{cond_both, cond-true, cond-false, eq-eqb, ne_eqb, eqb-true, eqb-false}
 use Rattle.layout.specs.declared.place.Owner.{Owner}
 use Rattle.layout.specs.declared.place.Owner.TheVariants.{Datum, Parity, Nobody}
-use Rattle.layout.specs.Geometry.{Geometry, capacity, Is, place_of}
-use Rattle.layout.specs.Lawful.{Inside, Owns, Joined, Peer, Placing, Grouping}
-use Rattle.kinds.specs.Cells.{on_grid, parity_member_lem, after_parity, left_cells}
+use Rattle.layout.specs.Geometry.{Is, place_of}
+use Rattle.layout.specs.Lawful.{Inside, Owns, Placing, Grouping}
+use Rattle.kinds.specs.Cells.{parity_member_lem, after_parity, left_cells}
 use Rattle.kinds.specs.Turns.{round, turns_apart}
 use Rattle.kinds.specs.Mirrors.{on_grid_lem, owns_grid}
 

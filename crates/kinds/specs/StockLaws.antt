@@ -1,6 +1,5 @@
 -- The same of the four kinds as one type.
 use Rattle.std.specs.Prelude.{◌≡◌}
-use Rattle.layout.specs.Geometry.{Geometry}
 use Rattle.layout.specs.Lawful.{Lawful}
 use Rattle.kinds.specs.Named.{geometry_named}
 use Rattle.kinds.specs.Stocks.{geometry_of, label_of}

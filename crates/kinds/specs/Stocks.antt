@@ -1,5 +1,5 @@
 -- The stock layouts: the label of each, the labels within the limits, and what each places where.
-use Rattle.std.specs.Prelude.{◌≡◌, ℕ, ◌*◌, ◌/◌, ◌≤◌, cond, ◌⊎◌, ◌==◌}
+use Rattle.std.specs.Prelude.{◌≡◌, ℕ, ◌/◌, ◌≤◌, ◌⊎◌}
 use Rattle.layout.specs.declared.label.Label.{Label}
 use Rattle.layout.specs.Geometry.{Geometry}
 use Rattle.kinds.specs.Cells.{striped_cells, left_cells, near_cells, far_cells}

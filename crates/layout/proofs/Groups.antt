@@ -1,6 +1,6 @@
 -- What the laws say of groups, for every lawful layout.
-use Rattle.std.proofs.Common.{◌≡◌, ℕ, ◌<◌, ◌≤◌, Some, None, sym, ap, ◌∙◌, subst, arith}
-use Rattle.layout.specs.Geometry.{Geometry, capacity, Only, GroupAt, LedAt}
+use Rattle.std.proofs.Common.{◌≡◌, ℕ, ◌<◌, Some, None, sym, ap, ◌∙◌, arith}
+use Rattle.layout.specs.Geometry.{Geometry, Only, GroupAt, LedAt}
 use Rattle.layout.specs.Lawful.{Lawful}
 
 -- a group has a first sector, and a layout's answer for it is that sector

@@ -1,13 +1,12 @@
 -- The law over whole runs: a run is what a caller and an onlooker see of it, call by call.
-use Rattle.std.specs.Prelude.{◌≡◌, ℕ, ◌<◌, ◌≤◌, Bool, true, false, cond, not, ◌&&◌, ◌⊎◌, List, [], ◌∷◌, Some, None, Option, ◌==◌}
+use Rattle.std.specs.Prelude.{◌≡◌, ℕ, ◌<◌, ◌≤◌, Bool, true, false, cond, not, ◌&&◌, ◌⊎◌, List, [], ◌∷◌, Some, Option, ◌==◌}
 use Rattle.answer.specs.declared.Refusal.{Refusal}
 use Rattle.answer.specs.declared.Refusal.TheVariants.{MembersLost, PowerLost, NumbersSpent}
 use Rattle.layout.specs.Geometry.{Geometry}
 use Rattle.overlap.specs.Needs.{need_of}
 use Rattle.overlap.specs.Rows.{LiveRows}
 use Rattle.shelf.specs.Meaning.{Meaning}
-use Rattle.stage.specs.declared.phase.Phase.{Phase}
-use Rattle.stage.specs.declared.phase.Phase.TheVariants.{Before, Moving, After, Shut}
+use Rattle.stage.specs.declared.phase.Phase.TheVariants.{Moving}
 use Rattle.model.specs.declared.count.Told.{Told}
 use Rattle.model.specs.declared.request.Request.{Request}
 use Rattle.model.specs.declared.request.Request.TheVariants.{Read, Write, Begin, Keep, Copy, Settle, HandBack, Finish, Open}

@@ -1,7 +1,6 @@
 -- What a volume knows of itself.
-use Rattle.std.specs.Prelude.{ℕ, Bool, true, false, Option}
+use Rattle.std.specs.Prelude.{ℕ, Option}
 use Rattle.layout.specs.Geometry.{Geometry}
-use Rattle.layout.specs.declared.label.Label.{Label}
 use Rattle.head.specs.Heads.{kept_of, settled_of}
 use Rattle.head.specs.declared.state.Head.{Head}
 use Rattle.stage.specs.Crew.{Crew, crew}

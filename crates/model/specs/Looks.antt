@@ -1,5 +1,5 @@
 -- Looks at a shelf's sectors.
-use Rattle.std.specs.Prelude.{◌≡◌, ℕ, true, false, List, [], length, Some, None, Option}
+use Rattle.std.specs.Prelude.{◌≡◌, ℕ, true, false, List, [], Some, None, Option}
 use Rattle.shelf.specs.Meaning.{Meaning}
 use Rattle.model.specs.Contents.{held}
 use Rattle.model.specs.Disks.{Disk}

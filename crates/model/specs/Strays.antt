@@ -1,13 +1,12 @@
 -- The stray count, and the count of places that differ from a fresh placement.
-use Rattle.std.specs.Prelude.{ℕ, zero, suc, ◌+◌, Bool, true, false, cond, not, ◌&&◌, List, [], ◌∷◌, replicate, Some, None, Option, ◌==◌}
-use Rattle.std.specs.Str.{bytes_eq}
+use Rattle.std.specs.Prelude.{ℕ, zero, suc, ◌+◌, Bool, true, false, cond, ◌&&◌, List, [], Some, None, Option, ◌==◌}
 use Rattle.layout.specs.Geometry.{Geometry}
 use Rattle.layout.specs.declared.place.Owner.{Owner}
 use Rattle.layout.specs.declared.place.Owner.TheVariants.{Datum, Parity, Nobody}
 use Rattle.shelf.specs.Meaning.{Meaning}
 use Rattle.stage.specs.declared.phase.Phase.{Phase}
 use Rattle.stage.specs.declared.phase.Phase.TheVariants.{Before, Moving, After, Shut}
-use Rattle.model.specs.Contents.{at, count, differs, gathered, home_differs_lem, home_in}
+use Rattle.model.specs.Contents.{count, differs, gathered, home_differs_lem, home_in}
 use Rattle.model.specs.Disks.{Disk, padded}
 use Rattle.model.specs.declared.count.Told.{Told}
 

@@ -1,5 +1,5 @@
 -- What a call answers before its first operation: the first of its refusals that applies, in the order in which they are told.
-use Rattle.std.specs.Prelude.{◌≡◌, ℕ, ◌+◌, ◌-◌, ◌*◌, ◌/◌, Bool, true, false, cond, not, ◌&&◌, ◌||◌, List, [], ◌∷◌, Some, None, Ok, Err, Option, Result, ◌==◌, nat_le, nat_lt}
+use Rattle.std.specs.Prelude.{◌≡◌, ℕ, ◌+◌, ◌-◌, ◌*◌, ◌/◌, Bool, true, false, cond, not, ◌&&◌, List, [], ◌∷◌, Some, None, Ok, Err, Option, Result, ◌==◌, nat_le, nat_lt}
 use Rattle.answer.specs.declared.Refusal.{Refusal}
 use Rattle.answer.specs.declared.Refused.{Refused}
 use Rattle.answer.specs.declared.Refusal.TheVariants.{BufferLength, PastEnd, WrongPhase, RowInHand, NeedNotKept, BackupFull, AllKept, RowsLeft, AllSettled, DistanceAboveBackup, OutOfLimits, NoHead, LabelsDiffer, HeadMisfit, MembersLost, PowerLost, NumbersSpent, WrongGrant}

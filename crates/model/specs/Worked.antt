@@ -1,21 +1,18 @@
 -- Examples of every definition of this crate. Contents of one byte stand for sectors.
-use Rattle.std.specs.Prelude.{◌≡◌, ℕ, ◌+◌, Bool, true, false, cond, List, [], ◌∷◌, Some, None, Option, ◌==◌, nat_eq}
-use Rattle.answer.specs.declared.Refusal.{Refusal}
-use Rattle.answer.specs.declared.Refusal.TheVariants.{BufferLength, PastEnd, WrongPhase, RowInHand, NeedNotKept, BackupFull, AllKept, RowsLeft, AllSettled, DistanceAboveBackup, OutOfLimits, MembersLost, PowerLost, NumbersSpent, WrongGrant}
+use Rattle.std.specs.Prelude.{◌≡◌, ℕ, Bool, true, false, cond, List, [], ◌∷◌, Some, None, Option, ◌==◌, nat_eq}
+use Rattle.answer.specs.declared.Refusal.TheVariants.{BufferLength, PastEnd, WrongPhase, RowInHand, NeedNotKept, BackupFull, AllKept, RowsLeft, AllSettled, OutOfLimits, MembersLost, PowerLost, NumbersSpent, WrongGrant}
 use Rattle.layout.specs.Geometry.{Geometry}
 use Rattle.layout.specs.declared.label.Label.{Label}
-use Rattle.layout.specs.declared.place.Owner.{Owner}
-use Rattle.layout.specs.declared.place.Owner.TheVariants.{Datum, Parity, Nobody}
+use Rattle.layout.specs.declared.place.Owner.TheVariants.{Datum, Nobody}
 use Rattle.overlap.specs.declared.walk.Home.TheVariants.{Source, Target, Backup}
 use Rattle.shelf.specs.Meaning.{Meaning}
-use Rattle.stage.specs.Crew.{Crew}
 use Rattle.stage.specs.declared.phase.Phase.{Phase}
 use Rattle.stage.specs.declared.phase.Phase.TheVariants.{Before, Moving, After, Shut}
 use Rattle.model.specs.declared.count.Told.{Told}
-use Rattle.model.specs.declared.request.Request.TheVariants.{Write, Begin, Keep, Copy, Settle, Finish, Open}
-use Rattle.model.specs.declared.request.Answered.TheVariants.{Granted, Refused, Met}
+use Rattle.model.specs.declared.request.Request.TheVariants.{Write, Begin, Copy, Settle, Finish, Open}
+use Rattle.model.specs.declared.request.Answered.TheVariants.{Met}
 use Rattle.model.specs.Contents.{home_in}
-use Rattle.model.specs.Disks.{Disk, after, created, disk_of, granted, refused}
+use Rattle.model.specs.Disks.{Disk, after, disk_of, granted, refused}
 use Rattle.model.specs.Histories.{chosen}
 use Rattle.model.specs.Knowing.{Volume}
 use Rattle.model.specs.Strays.{misplaced, strays}

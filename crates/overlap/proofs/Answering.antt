@@ -1,13 +1,12 @@
 -- From what a layout answers to the definitions, for every lawful layout.
-use Rattle.std.proofs.Common.{◌≡◌, ℕ, ◌+◌, ◌-◌, ◌*◌, ◌/◌, ◌<◌, ◌≤◌, max, cond, eqb, ltb, ◌⊎◌, Some, None, sym, refl, ap, ◌∙◌, subst, inl, inr, mul-le-mul_right, mul_comm, div-mul-le_self, arith}
+use Rattle.std.proofs.Common.{◌≡◌, ℕ, ◌+◌, ◌-◌, ◌*◌, ◌/◌, ◌<◌, ◌≤◌, max, eqb, ltb, Some, None, sym, ap, ◌∙◌, subst, inl, inr, mul-le-mul_right, mul_comm, div-mul-le_self, arith}
 use Rattle.std.proofs.lemmas.Nat.{mul-add-lt, le-div}
 use Rattle.std.proofs.lemmas.Bool.{cond-true, cond-false, lt-ltb, eq-eqb, ne_eqb, cases_lt, le-ltb}
-use Rattle.layout.specs.declared.place.Owner.{Owner}
-use Rattle.layout.specs.declared.place.Owner.TheVariants.{Datum, Parity, Nobody}
+use Rattle.layout.specs.declared.place.Owner.TheVariants.{Parity}
 use Rattle.layout.specs.Geometry.{Geometry, capacity, Only, LedAt}
 use Rattle.layout.specs.Lawful.{Owns, Lawful}
 use Rattle.overlap.specs.Needs.{row_need_lem, owner_need, place_need_lem, led_need, sector_need_lem, most}
-use Rattle.overlap.specs.Rows.{Live, LiveRows}
+use Rattle.overlap.specs.Rows.{LiveRows}
 
 pub live_rows_lem : (g : Geometry) → Lawful g → (size len : ℕ) → 1 ≤ size → len ≡ g.row_len → LiveRows g size ((size - 1) / len + 1)
 live_rows_lem g law size len some e =

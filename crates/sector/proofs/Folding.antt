@@ -1,5 +1,5 @@
 -- Folding byte after byte folds the whole.
-use Rattle.std.proofs.Common.{◌≡◌, ℕ, zero, suc, ◌+◌, ◌<◌, List, [], ◌∷◌, length, get_or, take, set, sym, refl, ap, ◌∙◌, add-one, arith}
+use Rattle.std.proofs.Common.{◌≡◌, ℕ, zero, suc, ◌+◌, ◌<◌, List, [], ◌∷◌, length, get_or, take, set, sym, refl, ap, add-one, arith}
 use lib.Bits.{bit_xor}
 use Rattle.sector.specs.Folds.{folded}
 

@@ -1,5 +1,5 @@
 -- The trial shelf, by its controls and its two images.
-use Rattle.std.specs.Prelude.{◌≡◌, ℕ, ◌+◌, ◌-◌, ◌*◌, ◌<◌, ◌≤◌, Bool, true, false, cond, ◌⊎◌, List, length, get_or, drop, set, replicate, Ok, Err, Result, ◌==◌, nat_lt, slice_index_or, slice_set}
+use Rattle.std.specs.Prelude.{◌≡◌, ℕ, ◌+◌, ◌-◌, ◌*◌, ◌<◌, ◌≤◌, Bool, true, false, cond, ◌⊎◌, List, length, get_or, drop, replicate, Ok, Err, Result, ◌==◌, nat_lt, slice_index_or, slice_set}
 use Rattle.shelf.specs.Meaning.{Meaning}
 use Rattle.shelf.specs.Runs.{Chosen, ChosenAlone, InRange, PulledAlone, RunOf, chosen_of, image_of, sector_at, sector_put}
 use Rattle.shelf.specs.declared.Answer.{Answer}

@@ -1,5 +1,5 @@
 -- One stage after another.
-use Rattle.std.proofs.Common.{◌≡◌, ℕ, ◌+◌, ◌<◌, ◌≤◌, Bool, true, false, ◌⊎◌, List, IsErrAnd, Some, None, Ok, Err, Option, Result, sym, refl, ap, ◌∙◌, subst, inl, inr, arith}
+use Rattle.std.proofs.Common.{◌≡◌, ℕ, List, IsErrAnd, Some, None, Ok, Err, Option, Result, sym, subst, inr, arith}
 use Rattle.answer.specs.declared.Fault.{Fault}
 use Rattle.answer.specs.declared.Operation.{Operation}
 use Rattle.answer.specs.declared.Operation.TheVariants.{Flush}
@@ -7,7 +7,7 @@ use Rattle.answer.specs.declared.Refused.{Refused}
 use Rattle.shelf.specs.Meaning.{Meaning}
 use Rattle.stage.specs.Crew.{Crew}
 use Rattle.stage.specs.Done.{FlushedAll, OnHeads, OnSector, Spread, WrittenAll}
-use Rattle.stage.specs.Ends.{GoesOn, Met, Names, Stage}
+use Rattle.stage.specs.Ends.{GoesOn, Names, Stage}
 use Rattle.stage.specs.May.{AtSector, May, nothing}
 use Rattle.stage.proofs.Loops.{goes_then, holds_stays, was_present}
 use Rattle.stage.proofs.Mays.{may_then, may_wider}

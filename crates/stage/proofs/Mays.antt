@@ -1,5 +1,5 @@
 -- The relation of every stage: it holds of nothing done, of one stage after another, and of a wider plan.
-use Rattle.std.proofs.Common.{◌≡◌, ℕ, true, false, ◌⊎◌, List, sym, refl, ◌∙◌, subst, inl, inr}
+use Rattle.std.proofs.Common.{◌≡◌, ℕ, ◌⊎◌, List, sym, refl, ◌∙◌, subst, inl, inr}
 use Rattle.shelf.specs.Meaning.{Meaning}
 use Rattle.stage.specs.May.{May}
 

@@ -1,12 +1,12 @@
 -- What one operation of any shelf makes of it.
-use Rattle.std.proofs.Common.{◌≡◌, ℕ, ◌<◌, ◌≤◌, true, false, ◌⊎◌, List, length, sym, refl, ap, ◌∙◌, subst, inl, inr, arith}
+use Rattle.std.proofs.Common.{◌≡◌, ℕ, ◌<◌, true, false, ◌⊎◌, List, length, sym, refl, ap, ◌∙◌, subst, inl, inr, arith}
 use mathlib.Core.Path.{fun_ext}
 use Rattle.std.proofs.lemmas.Bool.{both_ways, cases_Bool, cases_eq, cases_lt}
-use Rattle.shelf.specs.Meaning.{Flushed, FlushIn, Kept, Meaning, ReadIn, Reads, Sets, Settles, Tells, WriteIn, Writes}
+use Rattle.shelf.specs.Meaning.{Kept, Meaning, Sets, Settles, Tells, WriteIn, Writes}
 use Rattle.shelf.specs.declared.Answer.{Answer}
 use Rattle.shelf.specs.declared.Answer.TheVariants.{Done, Absent, Off, Refused}
-use Rattle.stage.specs.May.{AtCell, May, nothing}
-use Rattle.stage.specs.Cells.{Got, GotAt, Left, Put, PutAt, Settled, SettledAt}
+use Rattle.stage.specs.May.{May}
+use Rattle.stage.specs.Cells.{Left, Put, PutAt}
 use Rattle.stage.proofs.Mays.{may_refl}
 
 -- a member that is there afterwards was there, so all are as they were

@@ -1,5 +1,5 @@
 -- Whether enough members are present.
-use Rattle.std.specs.Prelude.{ℕ, zero, suc, ◌+◌, min, Bool, true, false, cond, ◌&&◌, nat_le}
+use Rattle.std.specs.Prelude.{ℕ, zero, suc, ◌+◌, min, Bool, false, cond, ◌&&◌, nat_le}
 use Rattle.layout.specs.Geometry.{Geometry}
 use Rattle.shelf.specs.Meaning.{Meaning}
 use Rattle.stage.specs.declared.phase.Phase.{Phase}

@@ -1,9 +1,8 @@
 -- What the stages leave when they are done, and the operations that they name when they are not.
-use Rattle.std.specs.Prelude.{◌≡◌, ℕ, ◌<◌, Bool, true, false, ◌⊎◌, List, Some, None, Ok, Err, Option, Result}
+use Rattle.std.specs.Prelude.{◌≡◌, ℕ, ◌<◌, Bool, true, false, ◌⊎◌, List, Some, None, Ok, Err, Result}
 use Rattle.answer.specs.declared.Operation.{Operation}
-use Rattle.answer.specs.declared.Operation.TheVariants.{Restart, Read, Write, Flush}
-use Rattle.answer.specs.declared.Refusal.{Refusal}
-use Rattle.answer.specs.declared.Refusal.TheVariants.{MembersLost, PowerLost}
+use Rattle.answer.specs.declared.Operation.TheVariants.{Write, Flush}
+use Rattle.answer.specs.declared.Refusal.TheVariants.{MembersLost}
 use Rattle.answer.specs.declared.Fault.{Fault}
 use Rattle.answer.specs.declared.Refused.{Refused}
 use Rattle.shelf.specs.Meaning.{Meaning}

@@ -1,5 +1,5 @@
 -- What operations that write by a plan may make of a shelf.
-use Rattle.std.specs.Prelude.{◌≡◌, ℕ, true, false, ◌⊎◌, List}
+use Rattle.std.specs.Prelude.{◌≡◌, ℕ, false, ◌⊎◌, List}
 use Rattle.shelf.specs.Meaning.{Meaning}
 
 -- From a to b the shelf saw only operations that write contents that P allows at a member and a sector.

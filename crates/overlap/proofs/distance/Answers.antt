@@ -1,4 +1,4 @@
-use Rattle.std.proofs.Common.{◌≡◌, ℕ, ◌+◌, ◌-◌, ◌*◌, min, sym, ap, ◌∙◌, arith}
+use Rattle.std.proofs.Common.{◌≡◌, ℕ, ap, ◌∙◌, arith}
 use Rattle.overlap.specs.Needs.{ahead_of, distance_of, most, need_of, reach_of}
 use Rattle.overlap.proofs.Greatest.{most_more}
 use Rattle.overlap.proofs.Windows.{ahead_is, enough}

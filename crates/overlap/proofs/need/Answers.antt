@@ -1,7 +1,6 @@
 use Rattle.std.proofs.Common.{◌≡◌, ℕ, ◌+◌, ◌*◌, ltb, sym, ap, ◌∙◌, arith}
 use Rattle.std.proofs.lemmas.Bool.{cond-true, lt-ltb}
 use Rattle.overlap.specs.Needs.{most, need_of, sector_need_lem}
-use Rattle.overlap.specs.Rows.{Highest}
 use Rattle.overlap.proofs.Answering.{sector_below}
 use Rattle.overlap.proofs.Greatest.{most_more}
 use Rattle.overlap.proofs.Sharing.{highest_at, need_live}

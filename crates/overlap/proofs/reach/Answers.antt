@@ -1,5 +1,5 @@
-use Rattle.std.proofs.Common.{◌≡◌, ℕ, ◌+◌, ◌≤◌, min, sym, ap, ◌∙◌, arith}
-use Rattle.overlap.specs.Needs.{most, need_of, reach_of}
+use Rattle.std.proofs.Common.{◌≡◌, ◌+◌, min, ◌∙◌, arith}
+use Rattle.overlap.specs.Needs.{need_of, reach_of}
 use Rattle.overlap.proofs.Greatest.{most_more, most_rises}
 use Rattle.overlap.proofs.Windows.{reach_cut, rows_few}
 use Rattle.overlap.proofs.reach.Goals as goal

@@ -1,7 +1,7 @@
-use Rattle.std.proofs.Common.{◌≡◌, ℕ, ◌<◌, ap, ◌∙◌, arith}
+use Rattle.std.proofs.Common.{◌≡◌, ℕ, ap, ◌∙◌, arith}
 use Rattle.overlap.specs.Needs.{most, place_need_lem}
 use Rattle.overlap.proofs.Greatest.{most_more}
-use Rattle.overlap.proofs.Answering.{led_some, led_none}
+use Rattle.overlap.proofs.Answering.{led_some}
 use Rattle.overlap.proofs.sector_need.Goals as goal
 
 pub loop-copy-preserved : goal.loop-copy-preserved

@@ -1,4 +1,3 @@
-use Rattle.std.proofs.Common.{arith}
 use Rattle.model.proofs.Looking.{peer_placed}
 use Rattle.model.proofs.look.peer_place.Goals as goal
 

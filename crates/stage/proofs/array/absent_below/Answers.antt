@@ -1,4 +1,4 @@
-use Rattle.std.proofs.Common.{◌+◌, sym, ap, ◌∙◌, arith}
+use Rattle.std.proofs.Common.{arith}
 use Rattle.stage.proofs.Crews.{absent_next}
 use Rattle.stage.proofs.array.absent_below.Goals as goal
 
