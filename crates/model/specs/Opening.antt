@@ -10,7 +10,7 @@ use Rattle.head.specs.declared.state.Progress.TheVariants.{Idle, Moving}
 use Rattle.overlap.specs.Homes.{window_of}
 use Rattle.shelf.specs.Meaning.{Meaning}
 use Rattle.stage.specs.Crew.{borne}
-use Rattle.model.specs.Verdicts.{first_of, fits}
+use Rattle.model.specs.Verdicts.{first_refusal, fits}
 
 abbrev pub same_label : Label → Label → Bool
 same_label l k = (l.kind == k.kind && (l.members == k.members && l.copies == k.copies))
@@ -52,7 +52,7 @@ cannot_disarm (Some i) number = nat_lt (9223372036854775807 - number) 1
 
 -- open's verdict on the head that leads
 abbrev pub head_verdict : Head → Meaning → (sourceLabel targetLabel : Label) → (source target : Geometry) → Option Refusal
-head_verdict h a sl tl s t = first_of (
+head_verdict h a sl tl s t = first_refusal (
     (not (names_layouts_lem h sl tl), LabelsDiffer)
     ∷ (not (head_fits h a s t), HeadMisfit)
     ∷ (not (progress_borne h.progress a s t), MembersLost)

@@ -17,9 +17,9 @@ use Rattle.model.specs.declared.call.Call.{Call}
 use Rattle.model.specs.declared.call.Call.TheVariants.{Read, Write, Begin, Keep, Copy, Settle, Finish}
 
 -- the first refusal whose condition holds
-abbrev pub first_of : List (Bool × Refusal) → Option Refusal
-first_of [] = None
-first_of (c ∷ rest) = cond c.0 (Some c.1) (first_of rest)
+abbrev pub first_refusal : List (Bool × Refusal) → Option Refusal
+first_refusal [] = None
+first_refusal (c ∷ rest) = cond c.0 (Some c.1) (first_refusal rest)
 
 -- Each phase has its calls: read and write all three, begin the one before a move, the others the move.
 abbrev pub named : Call → Phase → Bool
@@ -70,7 +70,7 @@ earlier None o = o
 
 -- power, members, and whether the call is one for the phase
 abbrev pub admission : Call → Volume → Meaning → Option Refusal
-admission call v a = shut_or v.crew.phase (first_of (
+admission call v a = shut_or v.crew.phase (first_refusal (
     (not a.on, PowerLost)
     ∷ (not (enough v.crew a), MembersLost)
     ∷ (unborne call v.crew.target a, MembersLost)
@@ -99,13 +99,13 @@ abbrev pub emptied : Option ℕ → ℕ → Option ℕ
 emptied hand row = cond (is_hand hand row) None hand
 
 abbrev pub access_verdict : Volume → (i length : ℕ) → Option Refusal
-access_verdict v i length = first_of ((not (length == 512), BufferLength) ∷ (nat_le v.size i, PastEnd) ∷ [])
+access_verdict v i length = first_refusal ((not (length == 512), BufferLength) ∷ (nat_le v.size i, PastEnd) ∷ [])
 
 abbrev pub read_verdict : Volume → Meaning → (i length : ℕ) → Option Refusal
 read_verdict v a i length = earlier (admission Read v a) (access_verdict v i length)
 
 abbrev pub write_verdict : Volume → Meaning → (i length : ℕ) → Option Refusal
-write_verdict v a i length = earlier (admission Write v a) (earlier (access_verdict v i length) (first_of (
+write_verdict v a i length = earlier (admission Write v a) (earlier (access_verdict v i length) (first_refusal (
     (in_hand v.hand v.crew.target.row_len i, RowInHand)
     ∷ (spent v 2, NumbersSpent)
     ∷ [])))
@@ -119,7 +119,7 @@ abbrev pub fits : Meaning → Geometry → (backup size : ℕ) → Bool
 fits a g backup size = in_limits a && (nat_le g.members a.members && (nat_le (3 + backup + g.depth) a.sectors && nat_le size (capacity g)))
 
 abbrev pub begin_verdict : Label → Volume → Meaning → Option Refusal
-begin_verdict label v a = earlier (admission Begin v a) (first_of (
+begin_verdict label v a = earlier (admission Begin v a) (first_refusal (
     (not (true_label label v.crew.target && fits a v.crew.target v.backup v.size), OutOfLimits)
     ∷ (nat_lt v.backup (distance_of v.crew.source v.crew.target v.size), DistanceAboveBackup)
     ∷ (spent v 1, NumbersSpent)
@@ -130,28 +130,28 @@ abbrev pub next_window_lem : Volume → ℕ
 next_window_lem v = window_of v.crew.source.row_len v.crew.target.row_len v.settled v.size (v.kept + 1)
 
 abbrev pub keep_verdict : Volume → Meaning → Option Refusal
-keep_verdict v a = earlier (admission Keep v a) (first_of (
+keep_verdict v a = earlier (admission Keep v a) (first_refusal (
     (nat_le v.size (v.kept * v.crew.source.row_len), AllKept)
     ∷ (nat_lt v.backup (next_window_lem v), BackupFull)
     ∷ (spent v 1, NumbersSpent)
     ∷ []))
 
 abbrev pub copy_verdict : Volume → Meaning → Option Refusal
-copy_verdict v a = earlier (admission Copy v a) (first_of (
+copy_verdict v a = earlier (admission Copy v a) (first_refusal (
     (is_held v.hand, RowInHand)
     ∷ (nat_le v.crew.target.rows v.settled, AllSettled)
     ∷ (nat_lt v.kept (need_of v.crew.source v.crew.target v.size v.settled), NeedNotKept)
     ∷ []))
 
 abbrev pub settle_verdict : Volume → Meaning → ℕ → Option Refusal
-settle_verdict v a row = earlier (admission Settle v a) (first_of ((not (is_hand v.hand row), WrongGrant) ∷ (spent v 1, NumbersSpent) ∷ []))
+settle_verdict v a row = earlier (admission Settle v a) (first_refusal ((not (is_hand v.hand row), WrongGrant) ∷ (spent v 1, NumbersSpent) ∷ []))
 
 abbrev pub finish_verdict : Volume → Meaning → Option Refusal
-finish_verdict v a = earlier (admission Finish v a) (first_of ((nat_lt v.settled v.crew.target.rows, RowsLeft) ∷ (spent v 1, NumbersSpent) ∷ []))
+finish_verdict v a = earlier (admission Finish v a) (first_refusal ((nat_lt v.settled v.crew.target.rows, RowsLeft) ∷ (spent v 1, NumbersSpent) ∷ []))
 
 -- create judges the source only
 abbrev pub create_verdict : Label → Geometry → Meaning → (backup size : ℕ) → Option Refusal
-create_verdict label source a backup size = first_of (
+create_verdict label source a backup size = first_refusal (
     (not ((nat_le 1 backup && nat_le backup 4096) && (true_label label source && fits a source backup size)), OutOfLimits)
     ∷ (not a.on, PowerLost)
     ∷ (not (borne source a), MembersLost)

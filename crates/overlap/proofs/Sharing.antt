@@ -115,11 +115,11 @@ led_shared s t sl tl size r row i h e m =
 
 met : (s t : Geometry) → Lawful s → Lawful t → (size r row : ℕ) → need_of s t size r ≡ row + 1 → Live s size row × Shared s t row r
 met s t sl tl size r row m =
-    let row_of : ℕ → ℕ = λ k. sector_need_lem s t size (r * t.row_len + k) in
+    let need_at : ℕ → ℕ = λ k. sector_need_lem s t size (r * t.row_len + k) in
     elim (cases_lt r t.rows) [
-      | inr le ↦ absurd (omega (arith, sym (cond-false (ltb r t.rows) (most row_of t.row_len) 0 (le-ltb r t.rows le)) ∙ m))
+      | inr le ↦ absurd (omega (arith, sym (cond-false (ltb r t.rows) (most need_at t.row_len) 0 (le-ltb r t.rows le)) ∙ m))
       | inl lt ↦
-          (let k = most_met row_of t.row_len row (sym (cond-true (ltb r t.rows) (most row_of t.row_len) 0 (lt-ltb r t.rows lt)) ∙ m) in
+          (let k = most_met need_at t.row_len row (sym (cond-true (ltb r t.rows) (most need_at t.row_len) 0 (lt-ltb r t.rows lt)) ∙ m) in
           let i = r * t.row_len + k.0 in
           let inside : i < capacity t = omega (arith, mul-add-lt r t.row_len k.0 t.rows lt k.1, mul_comm t.row_len t.rows) in
           let in_row : i / t.row_len ≡ r = div-mul-add r t.row_len k.0 k.1 in
