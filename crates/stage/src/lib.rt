@@ -1,4 +1,5 @@
-// The stages that the calls of a volume are made of. Only the shelf changes in a stage, and only by these does a volume write.
+// The stages that the calls of a volume are made of, and the only way in which a volume writes. Only the shelf changes in a stage, and at a
+// checkpoint the array's head.
 // A stage ends at the operation at which the power goes or a member too many is found absent; that operation is the fault.
 #![tactic(auto)]
 
