@@ -1,6 +1,6 @@
 // The plain shelf: a run of bytes that settles each write, stays on and loses no member.
 ghost use Rattle.std.specs.Prelude.{◌≡◌, ◌*◌, ◌<◌, ◌≤◌, vec_len};
-ghost use Rattle.shelf.specs.Meaning.{plain_meaning};
+ghost use Rattle.shelf.specs.Meaning.{Flushed, Reads, Restarts, Writes, plain_meaning};
 ghost use Rattle.shelf.specs.Plains.{PlainFlushes, PlainMade, PlainReads, PlainRestarts, PlainWrites, Steady, plain_of};
 ghost use Rattle.shelf.specs.Runs.{FitsRun};
 ghost use Rattle.std.proofs.Common.{rules, arith};
@@ -81,6 +81,7 @@ impl Shelf for PlainShelf {
     }
 
     fn read(&mut self, member: u64, sector: u64, buffer: &mut [u8]) -> Answer
+        ensures reads { let a = self.old in let b = self.new in Reads member sector buffer.old buffer.new (plain_meaning a.members a.sectors a.bytes.items) (plain_meaning b.members b.sectors b.bytes.items) result }
         ensures exact { let a = self.old in let b = self.new in PlainReads member sector buffer.old buffer.new (plain_of a.members a.sectors a.bytes.items) (plain_of b.members b.sectors b.bytes.items) result }
         ensures steady { let a = self.old in let b = self.new in Steady (plain_meaning a.members a.sectors a.bytes.items) (plain_meaning b.members b.sectors b.bytes.items) }
     {
@@ -92,6 +93,7 @@ impl Shelf for PlainShelf {
     }
 
     fn write(&mut self, member: u64, sector: u64, buffer: &[u8]) -> Answer
+        ensures writes { let a = self.old in let b = self.new in Writes member sector buffer.now (plain_meaning a.members a.sectors a.bytes.items) (plain_meaning b.members b.sectors b.bytes.items) result }
         ensures exact { let a = self.old in let b = self.new in PlainWrites member sector buffer.now (plain_of a.members a.sectors a.bytes.items) (plain_of b.members b.sectors b.bytes.items) result }
         ensures steady { let a = self.old in let b = self.new in Steady (plain_meaning a.members a.sectors a.bytes.items) (plain_meaning b.members b.sectors b.bytes.items) }
     {
@@ -103,6 +105,7 @@ impl Shelf for PlainShelf {
     }
 
     fn flush(&mut self, member: u64) -> Answer
+        ensures flushed { let a = self.old in let b = self.new in Flushed member (plain_meaning a.members a.sectors a.bytes.items) (plain_meaning b.members b.sectors b.bytes.items) result }
         ensures exact { let a = self.old in let b = self.new in PlainFlushes member (plain_of a.members a.sectors a.bytes.items) (plain_of b.members b.sectors b.bytes.items) result }
         ensures steady { let a = self.old in let b = self.new in Steady (plain_meaning a.members a.sectors a.bytes.items) (plain_meaning b.members b.sectors b.bytes.items) }
     {
@@ -115,6 +118,7 @@ impl Shelf for PlainShelf {
 
     // Nothing was lost, so there is nothing to bring out.
     fn restart(&mut self) -> bool
+        ensures restarts { let a = self.old in let b = self.new in Restarts (plain_meaning a.members a.sectors a.bytes.items) (plain_meaning b.members b.sectors b.bytes.items) result }
         ensures exact { let a = self.old in let b = self.new in PlainRestarts (plain_of a.members a.sectors a.bytes.items) (plain_of b.members b.sectors b.bytes.items) result }
         ensures steady { let a = self.old in let b = self.new in Steady (plain_meaning a.members a.sectors a.bytes.items) (plain_meaning b.members b.sectors b.bytes.items) }
     {

@@ -1,6 +1,7 @@
 // The trial shelf: keeps what is settled apart from what is current, and loses power and members where it is told to.
 ghost use Rattle.std.specs.Prelude.{◌≡◌, ◌+◌, ◌*◌, ◌<◌, ◌≤◌, length, vec_len};
 ghost use Rattle.shelf.specs.Fuses.{ControlsStand};
+ghost use Rattle.shelf.specs.Meaning.{Flushed, Reads, Restarts, Writes};
 ghost use Rattle.shelf.specs.Runs.{FitsRun, PulledAlone};
 ghost use Rattle.shelf.specs.Trials.{Brought, BroughtAlone, BroughtOne, BroughtOneAlone, Loses, TrialFlushes, TrialMade, TrialReads, TrialRestarts, TrialWrites, controlled, trial_meaning, trial_of, with_choice, with_fuse};
 ghost use Rattle.std.proofs.Common.{rules, arith};
@@ -141,6 +142,7 @@ impl Shelf for TrialShelf {
     }
 
     fn read(&mut self, member: u64, sector: u64, buffer: &mut [u8]) -> Answer
+        ensures reads { let a = self.old in let b = self.new in Reads member sector buffer.old buffer.new (trial_meaning a.members a.sectors a.bytes.items a.controls) (trial_meaning b.members b.sectors b.bytes.items b.controls) result }
         ensures exact { let a = self.old in let b = self.new in TrialReads member sector buffer.old buffer.new (trial_of a.members a.sectors a.bytes.items a.controls) (trial_of b.members b.sectors b.bytes.items b.controls) result }
     {
         let Some(at) = run::cell(self.members, self.sectors, member, sector, buffer.len()) else {
@@ -157,6 +159,7 @@ impl Shelf for TrialShelf {
 
     // At the end of the fuse the write still reaches the current image.
     fn write(&mut self, member: u64, sector: u64, buffer: &[u8]) -> Answer
+        ensures writes { let a = self.old in let b = self.new in Writes member sector buffer.now (trial_meaning a.members a.sectors a.bytes.items a.controls) (trial_meaning b.members b.sectors b.bytes.items b.controls) result }
         ensures exact { let a = self.old in let b = self.new in TrialWrites member sector buffer.now (trial_of a.members a.sectors a.bytes.items a.controls) (trial_of b.members b.sectors b.bytes.items b.controls) result }
     {
         let Some(at) = run::cell(self.members, self.sectors, member, sector, buffer.len()) else {
@@ -172,6 +175,7 @@ impl Shelf for TrialShelf {
     }
 
     fn flush(&mut self, member: u64) -> Answer
+        ensures flushed { let a = self.old in let b = self.new in Flushed member (trial_meaning a.members a.sectors a.bytes.items a.controls) (trial_meaning b.members b.sectors b.bytes.items b.controls) result }
         ensures exact { let a = self.old in let b = self.new in TrialFlushes member (trial_of a.members a.sectors a.bytes.items a.controls) (trial_of b.members b.sectors b.bytes.items b.controls) result }
     {
         if member >= self.members {
@@ -187,6 +191,7 @@ impl Shelf for TrialShelf {
     }
 
     fn restart(&mut self) -> bool
+        ensures restarts { let a = self.old in let b = self.new in Restarts (trial_meaning a.members a.sectors a.bytes.items a.controls) (trial_meaning b.members b.sectors b.bytes.items b.controls) result }
         ensures exact { let a = self.old in let b = self.new in TrialRestarts (trial_of a.members a.sectors a.bytes.items a.controls) (trial_of b.members b.sectors b.bytes.items b.controls) result }
     {
         bring_back(&mut self.bytes, &self.controls, self.members, self.sectors);
