@@ -12,41 +12,41 @@ use std::fmt;
 #[derive(Clone, Copy, PartialEq, Eq, Debug)]
 pub enum Refusal {
     // the buffer has not the length of a sector
-    BufferLength,
+    BufferLength = 1,
     // the sector is at the volume's size or beyond
-    PastEnd,
+    PastEnd = 2,
     // the call is not one for this phase
-    WrongPhase,
+    WrongPhase = 3,
     // the row in hand would be written, or a second one taken
-    RowInHand,
+    RowInHand = 4,
     // the next target row lies on source rows that are not kept yet
-    NeedNotKept,
+    NeedNotKept = 5,
     // the kept sectors would not fit the backup slots
-    BackupFull,
+    BackupFull = 6,
     // every live source row is kept
-    AllKept,
+    AllKept = 7,
     // target rows are left to settle
-    RowsLeft,
+    RowsLeft = 8,
     // every target row is settled
-    AllSettled,
+    AllSettled = 9,
     // the overlap distance is above the number of backup slots
-    DistanceAboveBackup,
+    DistanceAboveBackup = 10,
     // a label, a shelf, the backup or the size is out of limits
-    OutOfLimits,
+    OutOfLimits = 11,
     // no member has a head with the fixed bytes and ranges
-    NoHead,
+    NoHead = 12,
     // the head names other layouts
-    LabelsDiffer,
+    LabelsDiffer = 13,
     // the head's numbers do not fit the shelf and the layouts
-    HeadMisfit,
+    HeadMisfit = 14,
     // more members are absent than a layout in force bears
-    MembersLost,
+    MembersLost = 15,
     // the shelf is off
-    PowerLost,
+    PowerLost = 16,
     // fewer checkpoint numbers are left than the call needs
-    NumbersSpent,
+    NumbersSpent = 17,
     // the grant is not of the row in hand
-    WrongGrant,
+    WrongGrant = 18,
 }
 
 impl Refusal {
@@ -54,36 +54,25 @@ impl Refusal {
     pub fn number(self) -> u8
         ensures { result ≡ refusal_number self }
     {
-        match self {
-            Refusal::BufferLength => 1,
-            Refusal::PastEnd => 2,
-            Refusal::WrongPhase => 3,
-            Refusal::RowInHand => 4,
-            Refusal::NeedNotKept => 5,
-            Refusal::BackupFull => 6,
-            Refusal::AllKept => 7,
-            Refusal::RowsLeft => 8,
-            Refusal::AllSettled => 9,
-            Refusal::DistanceAboveBackup => 10,
-            Refusal::OutOfLimits => 11,
-            Refusal::NoHead => 12,
-            Refusal::LabelsDiffer => 13,
-            Refusal::HeadMisfit => 14,
-            Refusal::MembersLost => 15,
-            Refusal::PowerLost => 16,
-            Refusal::NumbersSpent => 17,
-            Refusal::WrongGrant => 18,
-        }
+        self.into()
+    }
+}
+
+impl From<Refusal> for u8 {
+    ghost from_gives = { λ refusal n. n ≡ refusal_number refusal };
+
+    fn from(refusal: Refusal) -> u8 {
+        refusal as u8
     }
 }
 
 // what a shelf was asked for when power or a member went
 #[derive(Clone, Copy, PartialEq, Eq, Debug)]
 pub enum Operation {
-    Restart,
-    Read,
-    Write,
-    Flush,
+    Restart = 0,
+    Read = 1,
+    Write = 2,
+    Flush = 3,
 }
 
 impl Operation {
@@ -91,12 +80,15 @@ impl Operation {
     pub fn number(self) -> u8
         ensures { result ≡ operation_number self }
     {
-        match self {
-            Operation::Restart => 0,
-            Operation::Read => 1,
-            Operation::Write => 2,
-            Operation::Flush => 3,
-        }
+        self.into()
+    }
+}
+
+impl From<Operation> for u8 {
+    ghost from_gives = { λ operation n. n ≡ operation_number operation };
+
+    fn from(operation: Operation) -> u8 {
+        operation as u8
     }
 }
 
@@ -127,23 +119,16 @@ impl Refused {
             fault: Some(fault),
         }
     }
-}
 
-impl Refused {
     // The same, met while a call was about a row.
     pub fn in_row(self, row: u64) -> Refused
         ensures { result ≡ in_row self row }
     {
-        let Some(fault) = self.fault else {
-            return self;
-        };
         Refused {
             refusal: self.refusal,
-            fault: Some(Fault {
-                operation: fault.operation,
-                member: fault.member,
-                sector: fault.sector,
+            fault: self.fault.map(|fault| Fault {
                 row: Some(row),
+                ..fault
             }),
         }
     }
@@ -161,30 +146,41 @@ impl From<Refusal> for Refused {
     }
 }
 
-// `16 at write of member 2, sector 7, row 1`
-impl fmt::Display for Refused {
+impl fmt::Display for Operation {
     fn fmt<W: fmt::Write>(&self, f: &mut fmt::Formatter<W>) -> fmt::Result {
-        let number = self.refusal.number();
-        let Some(fault) = self.fault else {
-            return write!(f, "{number}");
-        };
-        let operation = match fault.operation {
+        f.write_str(match self {
             Operation::Restart => "restart",
             Operation::Read => "read",
             Operation::Write => "write",
             Operation::Flush => "flush",
-        };
-        let member = fault.member;
-        let sector = fault.sector;
-        match fault.row {
-            Some(row) => write!(
-                f,
-                "{number} at {operation} of member {member}, sector {sector}, row {row}"
-            ),
-            None => write!(
-                f,
-                "{number} at {operation} of member {member}, sector {sector}"
-            ),
+        })
+    }
+}
+
+// `write of member 2, sector 7, row 1`
+impl fmt::Display for Fault {
+    fn fmt<W: fmt::Write>(&self, f: &mut fmt::Formatter<W>) -> fmt::Result {
+        let Fault {
+            operation,
+            member,
+            sector,
+            row,
+        } = *self;
+        write!(f, "{operation} of member {member}, sector {sector}")?;
+        match row {
+            Some(row) => write!(f, ", row {row}"),
+            None => Ok(()),
+        }
+    }
+}
+
+// The refusal's number, and the fault where there is one: `16 at write of member 2, sector 7, row 1`
+impl fmt::Display for Refused {
+    fn fmt<W: fmt::Write>(&self, f: &mut fmt::Formatter<W>) -> fmt::Result {
+        let number = self.refusal.number();
+        match self.fault {
+            Some(fault) => write!(f, "{number} at {fault}"),
+            None => write!(f, "{number}"),
         }
     }
 }

@@ -22,6 +22,7 @@ pub fn zeros() -> Sector
 pub fn fold(written: &mut Sector, read: &Sector)
     ensures { written.new ≡ folded written.old read.now }
 {
+    // By index: over `iter_mut().zip(read)` the proof did not close.
     for (i, byte) in read.iter().enumerate() {
         written[i] = fold_byte(written[i], *byte);
     }
@@ -38,10 +39,5 @@ fn fold_byte(written: u8, read: u8) -> u8
 pub fn copied(buffer: &[u8]) -> Option<Sector>
     ensures { MatchOption result (length buffer.now ≢ 512) (λ s. s ≡ buffer.now) }
 {
-    if buffer.len() != SECTOR {
-        return None;
-    }
-    let mut sector = zeros();
-    sector.copy_from_slice(buffer);
-    Some(sector)
+    buffer.try_into().ok()
 }
