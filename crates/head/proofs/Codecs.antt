@@ -1,61 +1,77 @@
 -- The fields of a head are its bytes, and the bytes are its fields.
-use Rattle.std.proofs.Common.{◌≡◌, ℕ, ◌≤◌, List, [], ◌∷◌, ◌++◌, length, get_or, take, drop, Some, None, Option, sym, refl, ap, ◌∙◌, subst, arith, take-add, MatchOption}
+use Rattle.std.proofs.Common.{◌≡◌, ℕ, ◌+◌, ◌≤◌, List, [], ◌∷◌, ◌++◌, length, get_or, slice_index_or, take, drop, replicate, Some, None, Option, sym, refl, ap, ◌∙◌, subst, arith, take-add, MatchOption}
 use native.Mathlib.Bridge.{le_prop}
-use Rattle.std.specs.List.{between}
+use Rattle.std.specs.Int.{from_bool}
+use Rattle.std.specs.List.{between, splice}
+use Rattle.std.specs.Option.{is_some, unwrap_or}
 use Rattle.std.proofs.lemmas.List.{drop_more, drop-drop, drop-take, take-take, take_all}
 use Rattle.layout.specs.Bytes.{le, from_le, label_bytes, label_of}
 use Rattle.layout.specs.declared.label.Label.{Label}
-use Rattle.head.specs.Fields.{field, clear}
-use Rattle.head.specs.Heads.{Accepted, Placed, Fits, head_bytes, no_label, phase_of, target_of, settled_of, kept_of, armed_of, logged_of}
+use Rattle.head.specs.Fields.{clear, NumberAt, LabelAt}
+use Rattle.head.specs.Heads.{IdleBare, UnarmedBare, Accepted, Fits, head_bytes, no_label, phase_of, target_of, settled_of, kept_of, armed_of, logged_of}
 use Rattle.head.specs.declared.state.Head.{Head}
 use Rattle.head.specs.declared.state.Progress.{Progress}
 use Rattle.head.specs.declared.state.Progress.TheVariants.{Idle, Moving}
 
 -- zeros as numbers and labels
 
-pub no_label_lem : label_bytes no_label ≡ clear 16
+no_label_lem : label_bytes no_label ≡ clear 16
 unfolding le clear
 no_label_lem = refl
 
-pub no_label_fits : label_of (label_bytes no_label) ≡ no_label
+no_label_fits : label_of (label_bytes no_label) ≡ no_label
 unfolding le from_le
 no_label_fits = refl
 
-pub no_number : le 8 0 ≡ clear 8
+no_number : le 8 0 ≡ clear 8
 unfolding le clear
 no_number = refl
 
-pub no_number_fits : from_le (le 8 0) ≡ 0
+no_number_fits : from_le (le 8 0) ≡ 0
 unfolding le from_le
 no_number_fits = refl
 
-pub first_clear : (bs : List ℕ) → between 56 72 bs ≡ clear 16 → le 8 0 ≡ between 56 64 bs
-unfolding le clear
-first_clear bs e = sym (sym (take-take 8 16 (drop 56 bs) (omega arith)) ∙ ap (take 8) e)
+-- what an idle and an unarmed head have at the places of what they have not
 
-pub second_clear : (bs : List ℕ) → between 56 72 bs ≡ clear 16 → le 8 0 ≡ between 64 72 bs
+pub idle_target : (bs : List ℕ) → IdleBare bs → slice_index_or bs 3 0 ≡ 0 → LabelAt 32 no_label bs
+idle_target bs bare e = (no_label_lem ∙ sym (bare.target e), no_label_fits)
+
+pub idle_settled : (bs : List ℕ) → IdleBare bs → slice_index_or bs 3 0 ≡ 0 → NumberAt 56 0 bs
 unfolding le clear
-second_clear bs e = sym (ap (take 8) (sym (drop-drop 8 56 bs)) ∙ (sym (drop-take 8 8 (drop 56 bs)) ∙ ap (drop 8) e))
+idle_settled bs bare e = (sym (sym (take-take 8 16 (drop 56 bs) (omega arith)) ∙ ap (take 8) (bare.rows e)), no_number_fits)
+
+pub idle_kept : (bs : List ℕ) → IdleBare bs → slice_index_or bs 3 0 ≡ 0 → NumberAt 64 0 bs
+unfolding le clear
+idle_kept bs bare e =
+    (sym (ap (take 8) (sym (drop-drop 8 56 bs)) ∙ (sym (drop-take 8 8 (drop 56 bs)) ∙ ap (drop 8) (bare.rows e))), no_number_fits)
+
+pub unarmed_logged : (bs : List ℕ) → UnarmedBare bs → slice_index_or bs 4 0 ≡ 0 → NumberAt 80 0 bs
+unarmed_logged bs bare e = (no_number ∙ sym (bare.logged e), no_number_fits)
+
+pub ruleset bare = (idle_target, idle_settled, idle_kept, unarmed_logged)
+
+-- each field of the head stands at its place
+pub record Placed (bs : List ℕ) (h : Head) : Type 0 where
+  pub phase : phase_of h.progress ≡ get_or bs 3 0
+  pub armed : armed_of h.armed ≡ get_or bs 4 0
+  pub number : le 8 h.number ≡ between 8 16 bs
+  pub source : label_bytes h.source ≡ between 16 32 bs
+  pub target : label_bytes (target_of h.progress) ≡ between 32 48 bs
+  pub size : le 8 h.size ≡ between 48 56 bs
+  pub settled : le 8 (settled_of h.progress) ≡ between 56 64 bs
+  pub kept : le 8 (kept_of h.progress) ≡ between 64 72 bs
+  pub backup : le 4 h.backup ≡ between 72 76 bs
+  pub logged : le 8 (logged_of h.armed) ≡ between 80 88 bs
 
 -- the fields at their places are the whole
 
 five : (bs : List ℕ) → length bs ≡ 512
     → bs ≡ get_or bs 0 0 ∷ get_or bs 1 0 ∷ get_or bs 2 0 ∷ get_or bs 3 0 ∷ get_or bs 4 0 ∷ drop 5 bs
-five bs h =
-    let a : bs ≡ get_or bs 0 0 ∷ drop 1 bs = drop_more bs 0 0 (omega arith) in
-    let b : drop 1 bs ≡ get_or bs 1 0 ∷ drop 2 bs = drop_more bs 1 0 (omega arith) in
-    let c : drop 2 bs ≡ get_or bs 2 0 ∷ drop 3 bs = drop_more bs 2 0 (omega arith) in
-    let d : drop 3 bs ≡ get_or bs 3 0 ∷ drop 4 bs = drop_more bs 3 0 (omega arith) in
-    let e : drop 4 bs ≡ get_or bs 4 0 ∷ drop 5 bs = drop_more bs 4 0 (omega arith) in
-    cc
-
-is_field : (bs : List ℕ) → field bs ≡ bs
-unfolding field
-is_field bs = refl
+five bs h = grind (arith, drop_more)
 
 start : (bs : List ℕ) (h : Head) → Accepted bs → Placed bs h
-    → field (0x52 ∷ 0x48 ∷ 1 ∷ phase_of h.progress ∷ armed_of h.armed ∷ 0 ∷ 0 ∷ 0 ∷ []) ≡ take 8 bs
-unfolding field clear
+    → 0x52 ∷ 0x48 ∷ 1 ∷ phase_of h.progress ∷ armed_of h.armed ∷ 0 ∷ 0 ∷ 0 ∷ [] ≡ take 8 bs
+unfolding clear
 start bs h a p =
     let e : take 8 bs ≡ get_or bs 0 0 ∷ get_or bs 1 0 ∷ get_or bs 2 0 ∷ get_or bs 3 0 ∷ get_or bs 4 0 ∷ take 3 (drop 5 bs) =
     ap (take 8) (five bs a.long) in
@@ -63,35 +79,50 @@ start bs h a p =
     let m = a.marked in
     cc
 
+glue : (m n : ℕ) (bs : List ℕ) → take m bs ++ take n (drop m bs) ≡ take (m + n) bs
+glue m n bs = sym (take-add m n bs)
+
+joined : (bs a b c d e f g i j k l : List ℕ) → length bs ≡ 512
+    → a ≡ take 8 bs → b ≡ between 8 16 bs → c ≡ between 16 32 bs → d ≡ between 32 48 bs → e ≡ between 48 56 bs
+    → f ≡ between 56 64 bs → g ≡ between 64 72 bs → i ≡ between 72 76 bs → j ≡ between 76 80 bs → k ≡ between 80 88 bs
+    → l ≡ between 88 512 bs → a ++ b ++ c ++ d ++ e ++ f ++ g ++ i ++ j ++ k ++ l ≡ bs
+joined bs a b c d e f g i j k l h ea eb ec ed ee ef eg ei ej ek el =
+    rw (ea, eb, ec, ed, ee, ef, eg, ei, ej, ek, el) (simp glue (take_all 512 bs (omega arith)))
+
 pub whole : (bs : List ℕ) (h : Head) → Accepted bs → Placed bs h → head_bytes h ≡ bs
 whole bs h a p =
-    let s = start bs h a p in
-    let f1 = is_field (le 8 h.number) in
-    let f2 = is_field (label_bytes h.source) in
-    let f3 = is_field (label_bytes (target_of h.progress)) in
-    let f4 = is_field (le 8 h.size) in
-    let f5 = is_field (le 8 (settled_of h.progress)) in
-    let f6 = is_field (le 8 (kept_of h.progress)) in
-    let f7 = is_field (le 4 h.backup) in
-    let f8 = is_field (le 8 (logged_of h.armed)) in
-    let t1 : take 16 bs ≡ take 8 bs ++ take 8 (drop 8 bs) = take-add 8 8 bs in
-    let t2 : take 32 bs ≡ take 16 bs ++ take 16 (drop 16 bs) = take-add 16 16 bs in
-    let t3 : take 48 bs ≡ take 32 bs ++ take 16 (drop 32 bs) = take-add 32 16 bs in
-    let t4 : take 56 bs ≡ take 48 bs ++ take 8 (drop 48 bs) = take-add 48 8 bs in
-    let t5 : take 64 bs ≡ take 56 bs ++ take 8 (drop 56 bs) = take-add 56 8 bs in
-    let t6 : take 72 bs ≡ take 64 bs ++ take 8 (drop 64 bs) = take-add 64 8 bs in
-    let t7 : take 76 bs ≡ take 72 bs ++ take 4 (drop 72 bs) = take-add 72 4 bs in
-    let t8 : take 80 bs ≡ take 76 bs ++ take 4 (drop 76 bs) = take-add 76 4 bs in
-    let t9 : take 88 bs ≡ take 80 bs ++ take 8 (drop 80 bs) = take-add 80 8 bs in
-    let t10 : take 512 bs ≡ take 88 bs ++ take 424 (drop 88 bs) = take-add 88 424 bs in
-    let all : take 512 bs ≡ bs = take_all 512 bs (omega arith) in
-    let g = a.gaps in
-    cc
+    joined bs _ _ _ _ _ _ _ _ _ _ _ a.long (start bs h a p) p.number p.source p.target p.size p.settled p.kept p.backup
+    (sym a.gaps.slots) p.logged (sym a.gaps.tail)
+
+-- the fields that are written at their places, from zeros on, are the whole
+
+pub logged_some : (a : Option ℕ) → unwrap_or a 0 ≡ logged_of a
+logged_some None = refl
+logged_some (Some i) = refl
+
+pub armed_some : (a : Option ℕ) → from_bool (is_some a) ≡ armed_of a
+armed_some None = refl
+armed_some (Some i) = refl
+
+pub written : (h : Head) (b c d e f g i j k : List ℕ)
+    → c ≡ splice b 8 16 (le 8 h.number)
+    → d ≡ splice c 16 32 (label_bytes h.source)
+    → e ≡ splice d 32 48 (label_bytes (target_of h.progress))
+    → f ≡ splice e 48 56 (le 8 h.size)
+    → g ≡ splice f 56 64 (le 8 (settled_of h.progress))
+    → i ≡ splice g 64 72 (le 8 (kept_of h.progress))
+    → j ≡ splice i 72 76 (le 4 h.backup)
+    → k ≡ splice j 80 88 (le 8 (logged_of h.armed))
+    → b ≡ 0x52 ∷ 0x48 ∷ 1 ∷ phase_of h.progress ∷ armed_of h.armed ∷ replicate 507 0
+    → k ≡ head_bytes h
+unfolding clear le
+written h b c d e f g i j k ec ed ee ef eg ei ej ek eb =
+    rw (ek, ej, ei, eg, ef, ee, ed, ec, eb) (refl {a = head_bytes h})
 
 -- the bytes of a head are accepted, with its fields at their places
 
 pub placed : (h : Head) → Placed (head_bytes h) h
-unfolding field clear le
+unfolding clear le
 placed h = record {
   phase = refl;
   armed = refl;
@@ -113,28 +144,16 @@ flag_armed : (o : Option ℕ) → armed_of o ≤ 1
 flag_armed None = omega arith
 flag_armed (Some i) = omega arith
 
-bare_target : (p : Progress) → phase_of p ≡ 0 → label_bytes (target_of p) ≡ clear 16
-bare_target Idle e = no_label_lem
-bare_target (Moving t s k) e = absurd (omega (arith, e))
+idle_only : (p : Progress) → phase_of p ≡ 0 → p ≡ Idle
+idle_only Idle e = refl
+idle_only (Moving t s k) e = absurd (omega (arith, e))
 
-bare_settled : (p : Progress) → phase_of p ≡ 0 → le 8 (settled_of p) ≡ clear 8
-bare_settled Idle e = no_number
-bare_settled (Moving t s k) e = absurd (omega (arith, e))
-
-bare_kept : (p : Progress) → phase_of p ≡ 0 → le 8 (kept_of p) ≡ clear 8
-bare_kept Idle e = no_number
-bare_kept (Moving t s k) e = absurd (omega (arith, e))
-
-bare_logged : (o : Option ℕ) → armed_of o ≡ 0 → le 8 (logged_of o) ≡ clear 8
-bare_logged None e = no_number
-bare_logged (Some i) e = absurd (omega (arith, e))
-
-two_clear : (a b : List ℕ) → a ≡ clear 8 → b ≡ clear 8 → a ++ b ≡ clear 16
-unfolding clear
-two_clear a b e f = ap (λ t. t ++ b) e ∙ ap (λ t. clear 8 ++ t) f
+unarmed_only : (o : Option ℕ) → armed_of o ≡ 0 → o ≡ None
+unarmed_only None e = refl
+unarmed_only (Some i) e = absurd (omega (arith, e))
 
 pub accepted : (h : Head) → Fits h → Accepted (head_bytes h)
-unfolding field clear le
+unfolding clear le
 accepted h f =
     let n : from_le (between 8 16 (head_bytes h)) ≡ h.number = f.number in
     let b : from_le (between 72 76 (head_bytes h)) ≡ h.backup = f.backup in
@@ -150,11 +169,10 @@ accepted h f =
         backup_most = rw b h.backed.1;
       };
       idle = record {
-        target = bare_target h.progress;
-        rows = λ e. two_clear (le 8 (settled_of h.progress)) (le 8 (kept_of h.progress))
-            (bare_settled h.progress e) (bare_kept h.progress e);
+        target = λ e. rw (idle_only h.progress e) no_label_lem;
+        rows = λ e. rw (idle_only h.progress e) refl;
       };
-      unarmed = record { logged = bare_logged h.armed };
+      unarmed = record { logged = λ e. rw (unarmed_only h.armed e) no_number };
     }
 
 -- the bytes of a head say which head it is

@@ -1,3 +1,2 @@
-pub mod Drafts
 pub mod Zeros
 pub mod Codecs

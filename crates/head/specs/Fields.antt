@@ -1,13 +1,19 @@
--- Fields. `field` and `clear` stay shut in a search, so that it goes field by field and not byte by byte.
-use Rattle.std.specs.Prelude.{ℕ, Bool, List, replicate, MatchBool}
+-- Fields of a head's bytes.
+use Rattle.std.specs.Prelude.{◌≡◌, ℕ, ◌+◌, Bool, List, replicate, MatchBool}
+use Rattle.std.specs.List.{between}
+use Rattle.layout.specs.Bytes.{le, from_le, label_bytes, label_of}
+use Rattle.layout.specs.declared.label.Label.{Label}
 
--- a run of bytes as a field
-unfoldable pub field : List ℕ → List ℕ
-field bs = bs
-
--- a field of zeros
+-- so many zeros; it stays shut in a search, which would else go byte by byte
 unfoldable pub clear : ℕ → List ℕ
 clear n = replicate n 0
+
+-- a number stands in the eight bytes from a place on, and a label in the sixteen; the bytes keep all of it
+abbrev pub NumberAt : ℕ → ℕ → List ℕ → Type 0
+NumberAt i n bs = (le 8 n ≡ between i (i + 8) bs) × (from_le (le 8 n) ≡ n)
+
+abbrev pub LabelAt : ℕ → Label → List ℕ → Type 0
+LabelAt i l bs = (label_bytes l ≡ between i (i + 16) bs) × (label_of (label_bytes l) ≡ l)
 
 -- a test that tells whether
 abbrev pub Tells : Bool → Type 0 → Type 0

@@ -1,9 +1,9 @@
 -- The bytes of a head, and which bytes are a head.
-use Rattle.std.specs.Prelude.{◌≡◌, ℕ, ◌≤◌, List, [], ◌∷◌, ◌++◌, length, Some, None, Option, slice_index, slice_index_or}
+use Rattle.std.specs.Prelude.{◌≡◌, ℕ, ◌≤◌, List, [], ◌∷◌, ◌++◌, length, Some, None, Option, slice_index_or}
 use Rattle.std.specs.List.{between}
 use Rattle.layout.specs.Bytes.{le, from_le, label_bytes, label_of}
 use Rattle.layout.specs.declared.label.Label.{Label}
-use Rattle.head.specs.Fields.{field, clear}
+use Rattle.head.specs.Fields.{clear}
 use Rattle.head.specs.declared.state.Head.{Head}
 use Rattle.head.specs.declared.state.Progress.{Progress}
 use Rattle.head.specs.declared.state.Progress.TheVariants.{Idle, Moving}
@@ -39,16 +39,16 @@ logged_of (Some i) = i
 -- the fields in their order: mark, edition, phase and armed, the number, the labels, the size, the rows, the slots, the logged sector
 abbrev pub head_bytes : Head → List ℕ
 head_bytes h =
-    field (0x52 ∷ 0x48 ∷ 1 ∷ phase_of h.progress ∷ armed_of h.armed ∷ 0 ∷ 0 ∷ 0 ∷ [])
-    ++ field (le 8 h.number)
-    ++ field (label_bytes h.source)
-    ++ field (label_bytes (target_of h.progress))
-    ++ field (le 8 h.size)
-    ++ field (le 8 (settled_of h.progress))
-    ++ field (le 8 (kept_of h.progress))
-    ++ field (le 4 h.backup)
+    (0x52 ∷ 0x48 ∷ 1 ∷ phase_of h.progress ∷ armed_of h.armed ∷ 0 ∷ 0 ∷ 0 ∷ [])
+    ++ le 8 h.number
+    ++ label_bytes h.source
+    ++ label_bytes (target_of h.progress)
+    ++ le 8 h.size
+    ++ le 8 (settled_of h.progress)
+    ++ le 8 (kept_of h.progress)
+    ++ le 4 h.backup
     ++ clear 4
-    ++ field (le 8 (logged_of h.armed))
+    ++ le 8 (logged_of h.armed)
     ++ clear 424
 
 pub record Marked (bs : List ℕ) : Type 0 where
@@ -101,16 +101,3 @@ pub record Fits (h : Head) : Type 0 where
   pub kept : from_le (le 8 (kept_of h.progress)) ≡ kept_of h.progress
   pub backup : from_le (le 4 h.backup) ≡ h.backup
   pub logged : from_le (le 8 (logged_of h.armed)) ≡ logged_of h.armed
-
--- Each field of the head stands at its place.
-pub record Placed (bs : List ℕ) (h : Head) : Type 0 where
-  pub phase : phase_of h.progress ≡ slice_index bs 3
-  pub armed : armed_of h.armed ≡ slice_index bs 4
-  pub number : le 8 h.number ≡ between 8 16 bs
-  pub source : label_bytes h.source ≡ between 16 32 bs
-  pub target : label_bytes (target_of h.progress) ≡ between 32 48 bs
-  pub size : le 8 h.size ≡ between 48 56 bs
-  pub settled : le 8 (settled_of h.progress) ≡ between 56 64 bs
-  pub kept : le 8 (kept_of h.progress) ≡ between 64 72 bs
-  pub backup : le 4 h.backup ≡ between 72 76 bs
-  pub logged : le 8 (logged_of h.armed) ≡ between 80 88 bs

@@ -1,19 +1,38 @@
-// Which bytes are a head.
-ghost use Rattle.std.specs.Prelude.{◌≡◌, length};
+// Which sectors are a head.
+ghost use Rattle.std.specs.Prelude.{◌≡◌, MatchOption};
 ghost use Rattle.head.specs.Fields.{Tells};
 ghost use Rattle.head.specs.Heads.{Accepted, Marked, Flagged, Gapped, Ranged, IdleBare, UnarmedBare};
 
+use crate::part::{field_at, is_clear};
 use crate::{
-    ARMED, BACKUP_AT, EDITION, IDLE, LOGGED_AT, MARK, MOST_BACKUP, MOST_NUMBER, MOVING, NUMBER_AT,
-    SETTLED_AT, SIZE_AT, TAIL_AT, TARGET_AT, UNARMED, part,
+    ARMED_AT, BACKUP_AT, EDITION, EDITION_AT, LOGGED_AT, MARK, MOST_BACKUP, MOST_NUMBER, NUMBER_AT,
+    PHASE_AT, SETTLED_AT, SIZE_AT, TAIL_AT, TARGET_AT,
 };
-use sector::SECTOR;
+use sector::{SECTOR, Sector};
 
-pub fn is_accepted(bytes: &[u8]) -> bool
+// A sector that is a head.
+#[derive(Clone, Copy)]
+pub struct HeadSector<'a> {
+    pub bytes: &'a Sector,
+    ghost accepted: { Accepted bytes.now },
+}
+
+impl<'a> HeadSector<'a> {
+    // The sector that these bytes are, if it is a head.
+    pub fn new(bytes: &'a [u8]) -> Option<HeadSector<'a>>
+        ensures { MatchOption result (Accepted bytes.now → ⊥) (λ s. s.bytes.now ≡ bytes.now) }
+    {
+        match <&Sector>::try_from(bytes) {
+            Ok(bytes) if is_accepted(bytes) => Some(HeadSector { bytes }),
+            _ => None,
+        }
+    }
+}
+
+fn is_accepted(bytes: &Sector) -> bool
     ensures { Tells result (Accepted bytes.now) }
 {
-    bytes.len() == SECTOR
-        && is_marked(bytes)
+    is_marked(bytes)
         && has_flags(bytes)
         && has_clear_gaps(bytes)
         && is_in_range(bytes)
@@ -21,53 +40,48 @@ pub fn is_accepted(bytes: &[u8]) -> bool
         && is_bare_if_unarmed(bytes)
 }
 
-fn is_marked(bytes: &[u8]) -> bool
-    requires { length bytes.now ≡ 512 }
+fn is_marked(bytes: &Sector) -> bool
     ensures { Tells result (Marked bytes.now) }
 {
-    bytes[0] == MARK[0] && bytes[1] == MARK[1] && bytes[2] == EDITION
+    bytes.starts_with(&MARK) && bytes[EDITION_AT] == EDITION
 }
 
-fn has_flags(bytes: &[u8]) -> bool
-    requires { length bytes.now ≡ 512 }
+// Whether the phase and the armed byte are 0 or 1.
+fn has_flags(bytes: &Sector) -> bool
     ensures { Tells result (Flagged bytes.now) }
 {
-    bytes[3] <= MOVING && bytes[4] <= ARMED
+    bytes[PHASE_AT] <= 1 && bytes[ARMED_AT] <= 1
 }
 
 // Zeros where the format says nothing.
-fn has_clear_gaps(bytes: &[u8]) -> bool
-    requires { length bytes.now ≡ 512 }
+fn has_clear_gaps(bytes: &Sector) -> bool
     ensures { Tells result (Gapped bytes.now) }
 {
-    part::clear_at(bytes, 5, NUMBER_AT)
-        && part::clear_at(bytes, BACKUP_AT + 4, LOGGED_AT)
-        && part::clear_at(bytes, TAIL_AT, SECTOR)
+    is_clear(&bytes[ARMED_AT + 1..NUMBER_AT])
+        && is_clear(&bytes[BACKUP_AT + 4..LOGGED_AT])
+        && is_clear(&bytes[TAIL_AT..SECTOR])
 }
 
 // The number and the backup slots.
-fn is_in_range(bytes: &[u8]) -> bool
-    requires { length bytes.now ≡ 512 }
+fn is_in_range(bytes: &Sector) -> bool
     ensures { Tells result (Ranged bytes.now) }
 {
-    let number = part::u64_at(bytes, NUMBER_AT);
-    let backup = part::u32_at(bytes, BACKUP_AT);
-    number >= 1 && number <= MOST_NUMBER && backup >= 1 && backup <= MOST_BACKUP
+    let number: u64 = field_at(bytes, NUMBER_AT);
+    let backup: u32 = field_at(bytes, BACKUP_AT);
+    (1..=MOST_NUMBER).contains(&number) && (1..=MOST_BACKUP).contains(&backup)
 }
 
 // An idle head has no target and no rows.
-fn is_bare_if_idle(bytes: &[u8]) -> bool
-    requires { length bytes.now ≡ 512 }
+fn is_bare_if_idle(bytes: &Sector) -> bool
     ensures { Tells result (IdleBare bytes.now) }
 {
-    bytes[3] != IDLE
-        || part::clear_at(bytes, TARGET_AT, SIZE_AT) && part::clear_at(bytes, SETTLED_AT, BACKUP_AT)
+    bytes[PHASE_AT] != 0
+        || is_clear(&bytes[TARGET_AT..SIZE_AT]) && is_clear(&bytes[SETTLED_AT..BACKUP_AT])
 }
 
 // An unarmed head has no logged sector.
-fn is_bare_if_unarmed(bytes: &[u8]) -> bool
-    requires { length bytes.now ≡ 512 }
+fn is_bare_if_unarmed(bytes: &Sector) -> bool
     ensures { Tells result (UnarmedBare bytes.now) }
 {
-    bytes[4] != UNARMED || part::clear_at(bytes, LOGGED_AT, TAIL_AT)
+    bytes[ARMED_AT] != 0 || is_clear(&bytes[LOGGED_AT..TAIL_AT])
 }

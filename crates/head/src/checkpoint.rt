@@ -14,6 +14,7 @@ impl Head {
         if self.number >= MOST_NUMBER {
             return None;
         }
+        // every field by name: a struct with ghost fields has no `..*self`
         Some(Head {
             number: self.number + 1,
             source,
@@ -36,15 +37,6 @@ impl Head {
 pub fn leading(found: Option<Head>, next: Option<Head>) -> Option<Head>
     ensures { Leads found next result }
 {
-    let Some(first) = found else {
-        return next;
-    };
-    let Some(second) = next else {
-        return Some(first);
-    };
-    if second.number > first.number {
-        Some(second)
-    } else {
-        Some(first)
-    }
+    next.filter(|second| found.is_none_or(|first| second.number > first.number))
+        .or(found)
 }

@@ -1,64 +1,72 @@
 // A head from bytes.
-ghost use Rattle.std.specs.Prelude.{◌≡◌, slice_index};
-ghost use Rattle.std.specs.List.{between};
-ghost use Rattle.layout.specs.Bytes.{le, from_le, label_bytes, label_of};
-ghost use Rattle.head.specs.Heads.{Accepted, Placed, Fits, head_bytes, phase_of, target_of, settled_of, kept_of, armed_of, logged_of};
+ghost use Rattle.std.specs.Prelude.{◌≡◌, Some, slice_index, MatchOption};
+ghost use Rattle.head.specs.Fields.{NumberAt, LabelAt};
+ghost use Rattle.head.specs.Heads.{Accepted, Fits, head_bytes, phase_of, target_of, settled_of, kept_of, armed_of, logged_of};
 
+use crate::accept::HeadSector;
+use crate::part::field_at;
 use crate::state::{Head, Progress};
 use crate::{
-    BACKUP_AT, IDLE, KEPT_AT, LOGGED_AT, NUMBER_AT, SETTLED_AT, SIZE_AT, SOURCE_AT, TARGET_AT,
-    UNARMED, part,
+    ARMED_AT, BACKUP_AT, KEPT_AT, LOGGED_AT, NUMBER_AT, PHASE_AT, SETTLED_AT, SIZE_AT, SOURCE_AT,
+    TARGET_AT,
 };
 
-// The head that accepted bytes are.
-pub fn read(bytes: &[u8]) -> Head
-    requires { Accepted bytes.now }
-    ensures bytes { head_bytes result ≡ bytes.now }
-    ensures fits { Fits result }
-{
-    fields(bytes)
+impl Head {
+    // The head that these bytes are, if they are accepted. Written again it is the same bytes.
+    pub fn decode(bytes: &[u8]) -> Option<Head>
+        ensures { MatchOption result (Accepted bytes.now → ⊥) (λ h. Accepted bytes.now × (head_bytes h ≡ bytes.now) × Fits h) }
+    {
+        Some(HeadSector::new(bytes)?.head())
+    }
+
+    // A head that is written and read is the same head.
+    pub fn reread(&self) -> Option<Head>
+        ensures { result ≡ Some self.now }
+    {
+        Head::decode(&self.encode())
+    }
 }
 
 // Each field from its place.
-fn fields(bytes: &[u8]) -> Head
-    requires { Accepted bytes.now }
-    ensures placed { Placed bytes.now result }
-    ensures fits { Fits result }
-{
-    Head {
-        number: part::u64_at(bytes, NUMBER_AT),
-        source: part::label_at(bytes, SOURCE_AT),
-        progress: progress(bytes),
-        size: part::u64_at(bytes, SIZE_AT),
-        backup: part::u32_at(bytes, BACKUP_AT),
-        armed: armed(bytes),
+#[tactic(auto, using(crate::proofs::Codecs::bare))]
+impl HeadSector<'_> {
+    fn head(&self) -> Head
+        ensures bytes { head_bytes result ≡ self.now.bytes.now }
+        ensures fits { Fits result }
+    {
+        Head {
+            number: field_at(self.bytes, NUMBER_AT),
+            source: field_at(self.bytes, SOURCE_AT),
+            progress: self.progress(),
+            size: field_at(self.bytes, SIZE_AT),
+            backup: field_at(self.bytes, BACKUP_AT),
+            armed: self.armed(),
+        }
     }
-}
 
-fn progress(bytes: &[u8]) -> Progress
-    requires { Accepted bytes.now }
-    ensures phase { phase_of result ≡ slice_index bytes.now 3 }
-    ensures target { (label_bytes (target_of result) ≡ between 32 48 bytes.now) × (label_of (label_bytes (target_of result)) ≡ target_of result) }
-    ensures settled { (le 8 (settled_of result) ≡ between 56 64 bytes.now) × (from_le (le 8 (settled_of result)) ≡ settled_of result) }
-    ensures kept { (le 8 (kept_of result) ≡ between 64 72 bytes.now) × (from_le (le 8 (kept_of result)) ≡ kept_of result) }
-{
-    if bytes[3] == IDLE {
-        return Progress::Idle;
+    fn progress(&self) -> Progress
+        ensures phase { phase_of result ≡ slice_index self.now.bytes.now 3 }
+        ensures target { LabelAt 32 (target_of result) self.now.bytes.now }
+        ensures settled { NumberAt 56 (settled_of result) self.now.bytes.now }
+        ensures kept { NumberAt 64 (kept_of result) self.now.bytes.now }
+    {
+        if self.bytes[PHASE_AT] == 0 {
+            return Progress::Idle;
+        }
+        Progress::Moving {
+            target: field_at(self.bytes, TARGET_AT),
+            settled: field_at(self.bytes, SETTLED_AT),
+            kept: field_at(self.bytes, KEPT_AT),
+        }
     }
-    Progress::Moving {
-        target: part::label_at(bytes, TARGET_AT),
-        settled: part::u64_at(bytes, SETTLED_AT),
-        kept: part::u64_at(bytes, KEPT_AT),
-    }
-}
 
-fn armed(bytes: &[u8]) -> Option<u64>
-    requires { Accepted bytes.now }
-    ensures armed { armed_of result ≡ slice_index bytes.now 4 }
-    ensures logged { (le 8 (logged_of result) ≡ between 80 88 bytes.now) × (from_le (le 8 (logged_of result)) ≡ logged_of result) }
-{
-    if bytes[4] == UNARMED {
-        return None;
+    fn armed(&self) -> Option<u64>
+        ensures armed { armed_of result ≡ slice_index self.now.bytes.now 4 }
+        ensures logged { NumberAt 80 (logged_of result) self.now.bytes.now }
+    {
+        if self.bytes[ARMED_AT] == 0 {
+            return None;
+        }
+        Some(field_at(self.bytes, LOGGED_AT))
     }
-    Some(part::u64_at(bytes, LOGGED_AT))
 }

@@ -1,91 +1,35 @@
-// A head as bytes.
+// A head to bytes.
 ghost use Rattle.std.specs.Prelude.{◌≡◌};
-ghost use Rattle.head.specs.Heads.{head_bytes, Fits, phase_of, target_of, settled_of, kept_of, armed_of, logged_of};
+ghost use Rattle.head.specs.Heads.{Accepted, Fits, head_bytes};
 
-use crate::draft::Draft;
-use crate::state::{Head, Progress};
-use crate::{ARMED, EDITION, IDLE, MARK, MOVING, TAIL_AT, UNARMED};
-use layout::label::Label;
-use sector::{SECTOR, Sector};
+use crate::part::put_field;
+use crate::state::Head;
+use crate::{
+    ARMED_AT, BACKUP_AT, EDITION, EDITION_AT, KEPT_AT, LOGGED_AT, MARK, NUMBER_AT, PHASE_AT,
+    SETTLED_AT, SIZE_AT, SOURCE_AT, TARGET_AT,
+};
+use sector::{Sector, zeros};
 
-// The fields of a head in their order.
-pub fn written(head: &Head) -> Sector
-    ensures bytes { result ≡ head_bytes head.now }
-    ensures fits { Fits head.now }
-{
-    let mut out = Draft::begin(&[
-        MARK[0],
-        MARK[1],
-        EDITION,
-        phase(head.progress),
-        armed(head.armed),
-        0,
-        0,
-        0,
-    ]);
-    out.put_u64(head.number);
-    out.put_label(&head.source);
-    out.put_label(&target(head.progress));
-    out.put_u64(head.size);
-    out.put_u64(settled(head.progress));
-    out.put_u64(kept(head.progress));
-    out.put_u32(head.backup);
-    out.skip(4);
-    out.put_u64(logged(head.armed));
-    out.skip(SECTOR - TAIL_AT);
-    out.done()
-}
-
-fn phase(progress: Progress) -> u8
-    ensures { result ≡ phase_of progress }
-{
-    match progress {
-        Progress::Idle => IDLE,
-        Progress::Moving { .. } => MOVING,
-    }
-}
-
-fn target(progress: Progress) -> Label
-    ensures { result ≡ target_of progress }
-{
-    match progress {
-        Progress::Idle => Label::ZERO,
-        Progress::Moving { target, .. } => target,
-    }
-}
-
-fn settled(progress: Progress) -> u64
-    ensures { result ≡ settled_of progress }
-{
-    match progress {
-        Progress::Idle => 0,
-        Progress::Moving { settled, .. } => settled,
-    }
-}
-
-fn kept(progress: Progress) -> u64
-    ensures { result ≡ kept_of progress }
-{
-    match progress {
-        Progress::Idle => 0,
-        Progress::Moving { kept, .. } => kept,
-    }
-}
-
-fn armed(armed: Option<u64>) -> u8
-    ensures { result ≡ armed_of armed }
-{
-    match armed {
-        None => UNARMED,
-        Some(_) => ARMED,
-    }
-}
-
-fn logged(armed: Option<u64>) -> u64
-    ensures { result ≡ logged_of armed }
-{
-    match armed {
-        None => 0,
-        Some(logged) => logged,
+impl Head {
+    // The head as it is written: each field at its place, and zeros where the format says nothing.
+    pub fn encode(&self) -> Sector
+        ensures bytes { result ≡ head_bytes self.now }
+        ensures accepted { Accepted result }
+        ensures fits { Fits self.now }
+    {
+        let mut bytes = zeros();
+        bytes[..EDITION_AT].copy_from_slice(&MARK);
+        bytes[EDITION_AT] = EDITION;
+        bytes[PHASE_AT] = u8::from(self.progress.is_moving());
+        bytes[ARMED_AT] = u8::from(self.armed.is_some());
+        put_field(&mut bytes, NUMBER_AT, self.number);
+        put_field(&mut bytes, SOURCE_AT, self.source);
+        put_field(&mut bytes, TARGET_AT, self.progress.target());
+        put_field(&mut bytes, SIZE_AT, self.size);
+        put_field(&mut bytes, SETTLED_AT, self.progress.settled());
+        put_field(&mut bytes, KEPT_AT, self.progress.kept());
+        put_field(&mut bytes, BACKUP_AT, self.backup);
+        put_field(&mut bytes, LOGGED_AT, self.armed.unwrap_or(0));
+        bytes
     }
 }

@@ -3,11 +3,10 @@
 
 mod accept;
 mod checkpoint;
-mod codec;
 mod decode;
-mod draft;
 mod encode;
 mod part;
+mod progress;
 mod state;
 
 pub use checkpoint::leading;
@@ -32,13 +31,12 @@ const MARK: [u8; 2] = [0x52, 0x48];
 
 const EDITION: u8 = 1;
 
-const IDLE: u8 = 0;
+// where each field begins, and the zeros after the last
+const EDITION_AT: usize = 2;
 
-const MOVING: u8 = 1;
+const PHASE_AT: usize = 3;
 
-const UNARMED: u8 = 0;
-
-const ARMED: u8 = 1;
+const ARMED_AT: usize = 4;
 
 const NUMBER_AT: usize = 8;
 

@@ -4,6 +4,7 @@ ghost use Rattle.std.specs.Prelude.{◌≤◌};
 use layout::label::Label;
 
 // Whether the volume moves, and how far it has come: the target's settled rows and the source's kept rows.
+// Two words of the subject rather than an `Option`: an idle volume lacks nothing.
 #[derive(Clone, Copy, PartialEq, Eq, Debug)]
 pub enum Progress {
     Idle,

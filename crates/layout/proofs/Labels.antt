@@ -1,28 +1,16 @@
--- A label's bytes as its parts, and the parts as the whole.
-use Rattle.std.proofs.Common.{◌≡◌, ℕ, List, ◌∷◌, ◌++◌, length, get_or, take, drop, sym, refl, subst}
-use Rattle.layout.proofs.Bytes.{listed, listed_all}
+-- The bytes of a label and its parts.
+use Rattle.std.proofs.Common.{◌≡◌, ℕ, List, ◌∷◌, ◌++◌, length, get_or, take, drop, arith}
+use Rattle.std.proofs.lemmas.List.{drop_more, drop-drop, take_all, take-append-drop, length-drop}
+use Rattle.layout.specs.Bytes.{le, from_le, label_bytes, label_of}
+use Rattle.layout.specs.declared.label.Label.{Label}
 
-pub record Joined (f c d r : List ℕ) : Type 0 where
-  pub whole : r ≡ f ++ (c ++ d)
-  pub firsts : (get_or r 0 0 ≡ get_or f 0 0) × (get_or r 1 0 ≡ get_or f 1 0) × (get_or r 2 0 ≡ get_or f 2 0) × (get_or r 3 0 ≡ get_or f 3 0)
-  pub chunk : take 4 (drop 4 r) ≡ c
-  pub depth : take 8 (drop 8 r) ≡ d
+pub of_label : (l : Label) → from_le (le 4 l.chunk) ≡ l.chunk → from_le (le 8 l.depth) ≡ l.depth → label_of (label_bytes l) ≡ l
+unfolding le
+of_label l chunk depth = λ i. record l { chunk = chunk i; depth = depth i }
 
-pub joins : (f c d : List ℕ) → length f ≡ 4 → length c ≡ 4 → length d ≡ 8
-    → Joined f c d (listed 4 0 f ++ (listed 4 0 c ++ listed 8 0 d))
-joins f c d hf hc hd =
-    let F : List ℕ = listed 4 0 f in
-    let C : List ℕ = listed 4 0 c in
-    let D : List ℕ = listed 8 0 d in
-    subst (λ x. Joined x c d (F ++ (C ++ D))) (sym (listed_all 4 0 f hf))
-    (subst (λ x. Joined F x d (F ++ (C ++ D))) (sym (listed_all 4 0 c hc))
-    (subst (λ x. Joined F C x (F ++ (C ++ D))) (sym (listed_all 8 0 d hd))
-    (record { whole = refl; firsts = (refl, refl, refl, refl); chunk = refl; depth = refl })))
-
-pub parts : (bs c d : List ℕ) → length bs ≡ 16 → c ≡ take 4 (drop 4 bs) → d ≡ take 8 (drop 8 bs)
-    → bs ≡ get_or bs 0 0 ∷ get_or bs 1 0 ∷ get_or bs 2 0 ∷ get_or bs 3 0 ∷ (c ++ d)
-parts bs c d h ec ed =
-    let e : bs ≡ get_or bs 0 0 ∷ get_or bs 1 0 ∷ get_or bs 2 0 ∷ get_or bs 3 0 ∷ (take 4 (drop 4 bs) ++ take 8 (drop 8 bs)) =
-    subst (λ x. x ≡ get_or x 0 0 ∷ get_or x 1 0 ∷ get_or x 2 0 ∷ get_or x 3 0 ∷ (take 4 (drop 4 x) ++ take 8 (drop 8 x)))
-    (sym (listed_all 16 0 bs h)) refl in
-    cc
+pub parts : (bs : List ℕ) (m n : ℕ) → length bs ≡ 16 → le 4 m ≡ take 4 (drop 4 bs) → le 8 n ≡ take 8 (drop 8 bs)
+    → get_or bs 0 0 ∷ get_or bs 1 0 ∷ get_or bs 2 0 ∷ get_or bs 3 0 ∷ (le 4 m ++ le 8 n) ≡ bs
+parts bs m n h chunk depth =
+    let rest : take 4 (drop 4 bs) ++ drop 8 bs ≡ drop 4 bs = rw (← drop-drop 4 4 bs) (take-append-drop 4 (drop 4 bs)) in
+    let all : take 8 (drop 8 bs) ≡ drop 8 bs = take_all 8 (drop 8 bs) (omega (arith, length-drop {A = ℕ})) in
+    rw (chunk, depth, all) (grind (arith, drop_more))

@@ -1,3 +1,4 @@
 pub mod Bytes
 pub mod Groups
+pub mod Numbered
 pub mod Labels

@@ -1,4 +1,5 @@
 pub mod Bytes
 pub mod Geometry
+pub mod Kinds
 pub mod Labels
 pub mod Lawful

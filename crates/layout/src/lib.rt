@@ -7,8 +7,9 @@ ghost use Rattle.layout.specs.Labels.{true_label};
 ghost use Rattle.layout.specs.Lawful.{Lawful};
 ghost use Rattle.layout.specs.declared.label.Label.{Label};
 
+pub mod field;
+pub mod kind;
 pub mod label;
-pub mod number;
 pub mod place;
 
 use label::Label;
@@ -19,6 +20,9 @@ pub const MOST_MEMBERS: u64 = 16;
 pub const MOST_DEPTH: u64 = 16_777_216;
 
 pub const MOST_CAPACITY: u64 = 268_435_456;
+
+// the longest chunk of a stock kind, in sectors
+pub const MOST_CHUNK: u64 = 2_048;
 
 // A layout: every sector below the capacity has a place for each of its copies; with parity, every sector is in one group, and the
 // group has a place for the exclusive-or of its peers. A customer's own layout implements this trait and has a label of kind 128 to 255.

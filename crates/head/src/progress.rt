@@ -1,0 +1,44 @@
+// What a progress says; an idle one has the label of no layout and no rows.
+ghost use Rattle.std.specs.Prelude.{◌≡◌};
+ghost use Rattle.std.specs.Int.{from_bool};
+ghost use Rattle.head.specs.Heads.{phase_of, target_of, settled_of, kept_of};
+
+use crate::state::Progress;
+use layout::label::Label;
+
+impl Progress {
+    pub fn is_moving(&self) -> bool
+        ensures { from_bool result ≡ phase_of self.now }
+    {
+        matches!(self, Progress::Moving { .. })
+    }
+
+    pub fn target(&self) -> Label
+        ensures { result ≡ target_of self.now }
+    {
+        match *self {
+            Progress::Idle => Label::ZERO,
+            Progress::Moving { target, .. } => target,
+        }
+    }
+
+    // The target's settled rows.
+    pub fn settled(&self) -> u64
+        ensures { result ≡ settled_of self.now }
+    {
+        match *self {
+            Progress::Idle => 0,
+            Progress::Moving { settled, .. } => settled,
+        }
+    }
+
+    // The source's kept rows.
+    pub fn kept(&self) -> u64
+        ensures { result ≡ kept_of self.now }
+    {
+        match *self {
+            Progress::Idle => 0,
+            Progress::Moving { kept, .. } => kept,
+        }
+    }
+}
