@@ -22,7 +22,7 @@ pub rows_chunks : (c r l : ℕ) → r * (c * l) ≡ c * (r * l)
 rows_chunks c r l = sym (mul_assoc r c l) ∙ (ap (λ x. x * l) (mul_comm r c) ∙ mul_assoc c r l)
 
 -- a product is some only if its factors are
-some_factor : (c m : ℕ) → 0 < c * m → 0 < m
+pub some_factor : (c m : ℕ) → 0 < c * m → 0 < m
 some_factor c zero h = absurd (omega (arith, mul-zero c))
 some_factor c (suc m) h = omega arith
 

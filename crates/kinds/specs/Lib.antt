@@ -1,4 +1,5 @@
 pub mod Cells
+pub mod Cellular
 pub mod Chunked
 pub mod Grids
 pub mod Labels

@@ -2,13 +2,14 @@
 use Rattle.std.specs.Prelude.{◌≡◌, ℕ, ◌+◌, ◌-◌, ◌*◌, ◌/◌, ◌%◌, ◌<◌, ◌≤◌, nat_lt}
 use Rattle.std.proofs.Common.{ap, ◌∙◌, div-mul-le_self, mul_comm, add_assoc, arith}
 use Rattle.std.proofs.Math.Nat.{mul-add-mod_self_right}
-use Rattle.std.proofs.lemmas.Nat.{mul-add-lt, div_below, mod_below, div-mul-add, mod-mul-add, div-add-mod'}
+use Rattle.std.proofs.lemmas.Nat.{div_below, mod_below, div-mul-add, mod-mul-add, div-add-mod'}
 use Rattle.std.proofs.lemmas.Bool.{cond_both, cond-true, lt-ltb, ltb-true}
 use Rattle.layout.specs.declared.place.Owner.{Owner}
 use Rattle.layout.specs.declared.place.Owner.TheVariants.{Datum, Parity, Nobody}
 use Rattle.layout.specs.Geometry.{Geometry, Is, place_of}
 use Rattle.layout.specs.Lawful.{Inside, Owns, Placing}
 use Rattle.kinds.specs.Cells.{on_grid, striped_cells, near_cells, far_cells}
+use Rattle.kinds.specs.CellsLemmas.{cell_below, copy_below}
 use Rattle.kinds.specs.Turns.{turns_apart, turn_back, turn_forth}
 
 pub on_grid_lem : (n h : ℕ) (p : ℕ × ℕ) (w : Owner) → p.0 < n → p.1 < h → on_grid n h p w ≡ w
@@ -22,9 +23,6 @@ owns_grid g n h p w own =
 -- cell y of the grid
 cell : (n h y : ℕ) → 1 ≤ n → y < h * n → (y % n < n) × (y / n < h)
 cell n h y a b = (mod_below y n (omega arith), div_below y n h (omega arith) b)
-
-cell_below : (q c r h : ℕ) → q < h → r < c → q * c + r < h * c
-cell_below q c r h a b = omega (arith, mul-add-lt q c r h a b, mul_comm c h)
 
 -- striped
 striped_back : (n h : ℕ) → 1 ≤ n → (o : Owner) → Is (striped_cells n h) o → (striped_cells n h).owner (place_of (striped_cells n h) o) ≡ o
@@ -50,9 +48,6 @@ striped_placing n h a = record {
 }
 
 -- near
-copy_below : (k f j m : ℕ) → k < m / f → j < f → k * f + j < m
-copy_below k f j m a b = omega (arith, cell_below k f j (m / f) a b, div-mul-le_self m f)
-
 near_cell : (n h f k j : ℕ) → 1 ≤ n → k < h * n / f * 1 → j < f → ((k * f + j) % n < n) × ((k * f + j) / n < h)
 near_cell n h f k j a b c = cell n h (k * f + j) a (copy_below k f j (h * n) (omega arith) c)
 

@@ -1,13 +1,14 @@
 -- The laws of the left-symmetric kind, at chunks of one sector.
 use Rattle.std.specs.Prelude.{◌≡◌, ℕ, ◌+◌, ◌-◌, ◌*◌, ◌/◌, ◌%◌, ◌<◌, ◌≤◌, ◌==◌, ◌≢◌, refl}
-use Rattle.std.proofs.Common.{sym, ap, ◌∙◌, inl, inr, mul_comm, arith}
-use Rattle.std.proofs.lemmas.Nat.{mul-add-lt, div_below, mod_below, div-mul-add, mod-mul-add, div-add-mod'}
+use Rattle.std.proofs.Common.{sym, ap, ◌∙◌, inl, inr, arith}
+use Rattle.std.proofs.lemmas.Nat.{div_below, mod_below, div-mul-add, mod-mul-add, div-add-mod'}
 use Rattle.std.proofs.lemmas.Bool.{cond_both, cond-true, cond-false, eq-eqb, ne_eqb, eqb-true, eqb-false}
 use Rattle.layout.specs.declared.place.Owner.{Owner}
 use Rattle.layout.specs.declared.place.Owner.TheVariants.{Datum, Parity, Nobody}
 use Rattle.layout.specs.Geometry.{Is, place_of}
 use Rattle.layout.specs.Lawful.{Inside, Owns, Placing, Grouping}
 use Rattle.kinds.specs.Cells.{parity_member_lem, after_parity, left_cells}
+use Rattle.kinds.specs.CellsLemmas.{cell_below}
 use Rattle.kinds.specs.Turns.{round, turns_apart}
 use Rattle.kinds.specs.Mirrors.{on_grid_lem, owns_grid}
 
@@ -60,9 +61,6 @@ left_back n h a (Parity s) is =
     on_grid_lem n h (parity_member_lem n s, s) _ (parity_below n s (omega arith)) is
     ∙ cond-true (parity_member_lem n s == parity_member_lem n s) _ _ (eq-eqb (parity_member_lem n s) (parity_member_lem n s) refl)
 left_back n h a Nobody is = absurd is
-
-cell_below : (q c r h : ℕ) → q < h → r < c → q * c + r < h * c
-cell_below q c r h a b = omega (arith, mul-add-lt q c r h a b, mul_comm c h)
 
 left_owned : (n h : ℕ) → 3 ≤ n → (p : ℕ × ℕ) → Owns (left_cells n h) p ((left_cells n h).owner p)
 left_owned n h a p =

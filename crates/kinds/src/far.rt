@@ -1,19 +1,18 @@
 // Far copies: each member is cut into a zone for each copy, and each zone is striped, turned by one member more than the one before.
 ghost use Rattle.std.specs.Prelude.{◌≡◌, ◌-◌, ◌*◌, ◌/◌, ◌<◌, ◌≤◌, None, MatchOption};
+ghost use Rattle.layout.specs.declared.kind.Kind.TheVariants as kind;
 ghost use Rattle.kinds.specs.Limits.{Copied, Gridded, Measured};
 ghost use Rattle.kinds.specs.Cells.{far_cells};
-ghost use Rattle.kinds.specs.Chunked.{chunked};
-ghost use Rattle.kinds.specs.Labels.{labelled};
-ghost use Rattle.kinds.specs.Laws.{far_lawful, far_named, one_name};
+ghost use Rattle.kinds.specs.Laws.{far_cellular, far_named};
 
-use crate::grid::{Grid, NOWHERE};
-use crate::kind::FAR_KIND;
-use layout::Layout;
-use layout::label::Label;
+use crate::cells::Cells;
+use crate::grid::Grid;
+use crate::spread::Spread;
+use layout::kind::Kind;
 use layout::place::{Owner, Place};
 
 #[derive(Clone, Copy, PartialEq, Eq, Debug)]
-pub struct Far {
+pub struct FarCells {
     grid: Grid,
     copies: u64,
     ghost apart: { copies ≤ grid.members },
@@ -21,19 +20,25 @@ pub struct Far {
     ghost zoned: { copies ≤ grid.chunks },
 }
 
+pub type Far = Spread<FarCells>;
+
 impl Far {
     // None where a number is out of limits; each zone has at least one chunk of each member.
     pub fn new(members: u64, copies: u64, chunk: u64, depth: u64) -> Option<Far>
-        ensures { MatchOption result (Gridded members chunk depth × Copied members copies × (copies ≤ depth / chunk) → ⊥) (λ l. (l.copies ≡ copies) × Measured l.grid.members l.grid.chunk l.grid.chunks members chunk depth) }
+        ensures { MatchOption result (Gridded members chunk depth × Copied members copies × (copies ≤ depth / chunk) → ⊥) (λ l. (l.cells.copies ≡ copies) × Measured l.cells.grid.members l.cells.grid.chunk l.cells.grid.chunks members chunk depth) }
     {
         let grid = Grid::new(members, chunk, depth)?;
         if grid.bears(copies) && copies <= grid.chunks {
-            Some(Far { grid, copies })
+            Some(Spread {
+                cells: FarCells { grid, copies },
+            })
         } else {
             None
         }
     }
+}
 
+impl FarCells {
     // The rows of chunks in a zone.
     fn zone(&self) -> u64
         ensures value { result ≡ self.now.grid.chunks / self.now.copies }
@@ -43,86 +48,56 @@ impl Far {
     }
 }
 
-impl Layout for Far {
-    ghost geometry = { λ s. chunked s.grid.chunk (far_cells s.grid.members s.grid.chunks s.copies) };
+impl Cells for FarCells {
+    ghost KIND = { kind.Far };
 
-    ghost named = { λ s. labelled 4 s.copies s.grid.members s.grid.chunk s.grid.chunks };
+    const KIND: Kind = Kind::Far;
 
-    ghost lawful = { λ x. far_lawful x.grid x.copies x.few.0 x.apart x.zoned };
+    ghost over = { λ x. x.grid };
 
-    ghost one = { λ x y e. one_name _ _ _ _ (far_named x.grid x.copies) (far_named y.grid y.copies) e };
+    ghost cells = { λ x. far_cells x.grid.members x.grid.chunks x.copies };
 
-    fn label(&self) -> Label {
-        self.grid.label(FAR_KIND, self.copies as u8)
-    }
+    ghost lawful = { λ x. far_cellular x.grid x.copies x.few.0 x.apart x.zoned };
 
-    fn members(&self) -> u64 {
-        self.grid.members
-    }
+    ghost named = { λ x. far_named x.grid x.copies };
 
-    fn depth(&self) -> u64 {
-        self.grid.depth()
+    fn grid(&self) -> Grid {
+        self.grid
     }
 
     fn copies(&self) -> u64 {
         self.copies
     }
 
-    fn loss(&self) -> u64 {
-        self.copies - 1
-    }
-
-    fn row_len(&self) -> u64 {
-        self.grid.row_len(self.grid.members)
+    fn columns(&self) -> u64 {
+        self.grid.members
     }
 
     fn rows(&self) -> u64 {
         self.zone()
     }
 
-    fn capacity(&self) -> u64 {
-        self.grid.capacity(self.zone(), self.grid.members)
+    fn place(&self, number: u64, copy: u64) -> Place {
+        let members = self.grid.members;
+        (
+            (number + copy) % members,
+            copy * self.zone() + number / members,
+        )
     }
 
-    fn place(&self, sector: u64, copy: u64) -> Place {
-        if sector >= self.capacity() || copy >= self.copies {
-            return NOWHERE;
-        }
-        let number = sector / self.grid.chunk;
-        let row = copy * self.zone() + number / self.grid.members;
-        self.grid
-            .place((number + copy) % self.grid.members, row, sector)
-    }
-
-    fn group(&self, _sector: u64) -> Option<u64> {
+    fn parity(&self, _row: u64) -> Option<u64> {
         None
     }
 
-    fn peers(&self, _group: u64) -> u64 {
-        0
-    }
-
-    fn peer(&self, _group: u64, _index: u64) -> u64 {
-        0
-    }
-
-    fn parity(&self, _group: u64) -> Place {
-        NOWHERE
-    }
-
-    fn owner(&self, place: Place) -> Owner {
-        let Some(row) = self.grid.row(place) else {
-            return Owner::Nobody;
-        };
+    fn owner(&self, cell: Place) -> Owner {
         let zone = self.zone();
-        let copy = row / zone;
-        if copy >= self.copies {
+        let copy = cell.1 / zone;
+        if !self.grid.holds(cell) || copy >= self.copies {
             return Owner::Nobody;
         }
         let members = self.grid.members;
-        let number = row % zone * members + (place.0 + members - copy) % members;
         Owner::Datum {
-            sector: self.grid.sector(number, place.1),
+            sector: cell.1 % zone * members + (cell.0 + members - copy) % members,
             copy,
         }
     }

@@ -1,17 +1,16 @@
 // The grid under every stock layout: a column of chunks for each member.
 ghost use Rattle.std.specs.Prelude.{◌≡◌, ◌*◌, ◌/◌, ◌%◌, ◌<◌, ◌≤◌, Decides, MatchOption};
 ghost use Rattle.kinds.specs.Chunked.{in_cell, in_chunk};
-ghost use Rattle.kinds.specs.Grids.{CellAt, RowAt};
+ghost use Rattle.kinds.specs.Grids.{NumberAt, Used};
 ghost use Rattle.kinds.specs.Labels.{labelled};
 ghost use Rattle.kinds.specs.Limits.{Copied, Gridded, Measured};
 
+use layout::kind::Kind;
 use layout::label::Label;
 use layout::place::Place;
-use layout::{MOST_DEPTH, MOST_MEMBERS};
+use layout::{MOST_CHUNK, MOST_DEPTH, MOST_MEMBERS};
 
 pub const FEWEST_MEMBERS: u64 = 2;
-
-pub const MOST_CHUNK: u64 = 2048;
 
 pub const FEWEST_COPIES: u64 = 2;
 
@@ -37,10 +36,10 @@ impl Grid {
     pub(crate) fn new(members: u64, chunk: u64, depth: u64) -> Option<Grid>
         ensures { MatchOption result (Gridded members chunk depth → ⊥) (λ g. Measured g.members g.chunk g.chunks members chunk depth) }
     {
-        if members < FEWEST_MEMBERS || members > MOST_MEMBERS || chunk < 1 || chunk > MOST_CHUNK {
-            return None;
-        }
-        if depth < 1 || depth > MOST_DEPTH || depth % chunk != 0 {
+        let in_limits = (FEWEST_MEMBERS..=MOST_MEMBERS).contains(&members)
+            && (1..=MOST_CHUNK).contains(&chunk)
+            && (1..=MOST_DEPTH).contains(&depth);
+        if !in_limits || depth % chunk != 0 {
             return None;
         }
         Some(Grid {
@@ -54,21 +53,20 @@ impl Grid {
     pub(crate) fn bears(&self, copies: u64) -> bool
         ensures { Decides result (Copied self.now.members copies) }
     {
-        copies >= FEWEST_COPIES && copies <= self.members && copies <= MOST_COPIES
+        (FEWEST_COPIES..=MOST_COPIES).contains(&copies) && copies <= self.members
     }
 
     // The label of a layout of a kind over the grid.
-    pub(crate) fn label(&self, kind: u8, copies: u8) -> Label
+    pub(crate) fn label(&self, kind: Kind, copies: u8) -> Label
         ensures { result ≡ labelled kind copies self.now.members self.now.chunk self.now.chunks }
     {
-        Label {
+        Label::stock(
             kind,
-            members: self.members as u8,
+            self.members as u8,
             copies,
-            reserved: 0,
-            chunk: self.chunk as u32,
-            depth: self.depth(),
-        }
+            self.chunk as u32,
+            self.depth(),
+        )
     }
 
     // The used sectors of a member.
@@ -87,58 +85,46 @@ impl Grid {
         self.chunks * self.members
     }
 
-    // The sectors of a row with so many chunks of data.
-    pub(crate) fn row_len(&self, columns: u64) -> u64
-        requires { (1 ≤ columns) × (columns ≤ self.now.members) }
-        ensures value { result ≡ self.now.chunk * columns }
-        ensures bound { (1 ≤ result) × (result ≤ 268435456) }
+    // Whether a cell is on a member and in a row.
+    pub(crate) fn holds(&self, cell: Place) -> bool
+        ensures { Decides result (Used self.now.members self.now.chunks cell) }
     {
-        self.chunk * columns
+        cell.0 < self.members && cell.1 < self.chunks
     }
 
-    // The sectors of so many such rows.
-    pub(crate) fn capacity(&self, rows: u64, columns: u64) -> u64
-        requires { (1 ≤ rows) × ((1 ≤ columns) × ((columns ≤ self.now.members) × (rows * columns ≤ self.now.chunks * self.now.members))) }
-        ensures value { result ≡ rows * (self.now.chunk * columns) }
-        ensures bound { (1 ≤ result) × (result ≤ 268435456) }
+    // The number of a cell, as the cells go round the members; None beyond the grid.
+    pub(crate) fn number(&self, cell: Place) -> Option<u64>
+        ensures { NumberAt self.now.members self.now.chunks cell result }
     {
-        rows * self.row_len(columns)
-    }
-
-    // The place of a sector whose chunk lies on the member in the row.
-    pub(crate) fn place(&self, member: u64, row: u64, sector: u64) -> Place
-        requires { (member < self.now.members) × (row < self.now.chunks) }
-        ensures { result ≡ in_cell self.now.chunk (member, row) sector }
-    {
-        (member, row * self.chunk + sector % self.chunk)
-    }
-
-    // The place of a sector whose chunk lies in a cell; the cells go round the members.
-    pub(crate) fn deal(&self, cell: u64, sector: u64) -> Place
-        requires { cell < self.now.chunks * self.now.members }
-        ensures { result ≡ in_cell self.now.chunk (cell % self.now.members, cell / self.now.members) sector }
-    {
-        self.place(cell % self.members, cell / self.members, sector)
-    }
-
-    // The row of a place, None beyond the grid.
-    pub(crate) fn row(&self, place: Place) -> Option<u64>
-        ensures { RowAt self.now.members self.now.chunk self.now.chunks place result }
-    {
-        let row = place.1 / self.chunk;
-        if place.0 < self.members && row < self.chunks {
-            Some(row)
+        if self.holds(cell) {
+            Some(cell.1 * self.members + cell.0)
         } else {
             None
         }
     }
 
-    // The cell of a place, None beyond the grid.
-    pub(crate) fn cell(&self, place: Place) -> Option<u64>
-        ensures { CellAt self.now.members self.now.chunk self.now.chunks place result }
+    // The cell of a number.
+    pub(crate) fn deal(&self, number: u64) -> Place
+        requires { number < self.now.chunks * self.now.members }
+        ensures { result ≡ (number % self.now.members, number / self.now.members) }
     {
-        let row = self.row(place)?;
-        Some(row * self.members + place.0)
+        (number % self.members, number / self.members)
+    }
+
+    // The place of a sector whose chunk lies in a cell.
+    pub(crate) fn place(&self, cell: Place, sector: u64) -> Place
+        requires { cell.1 < self.now.chunks }
+        ensures { result ≡ in_cell self.now.chunk cell sector }
+    {
+        (cell.0, self.offset(cell.1, sector))
+    }
+
+    // The offset of a sector whose chunk lies in a row.
+    pub(crate) fn offset(&self, row: u64, sector: u64) -> u64
+        requires { row < self.now.chunks }
+        ensures { result ≡ in_chunk self.now.chunk row (sector % self.now.chunk) }
+    {
+        row * self.chunk + sector % self.chunk
     }
 
     // The sector of a chunk at an offset.

@@ -1,103 +1,75 @@
 // Striped: the chunks go round the members, with one copy of each.
 ghost use Rattle.std.specs.Prelude.{◌≡◌, ◌*◌, ◌<◌, ◌≤◌, None, MatchOption};
+ghost use Rattle.layout.specs.declared.kind.Kind.TheVariants as kind;
 ghost use Rattle.kinds.specs.Limits.{Gridded, Measured};
 ghost use Rattle.kinds.specs.Cells.{striped_cells};
-ghost use Rattle.kinds.specs.Chunked.{chunked};
-ghost use Rattle.kinds.specs.Labels.{labelled};
-ghost use Rattle.kinds.specs.Laws.{striped_lawful, striped_named, one_name};
+ghost use Rattle.kinds.specs.Laws.{striped_cellular, striped_named};
 
-use crate::grid::{Grid, NOWHERE};
-use crate::kind::STRIPED_KIND;
-use layout::Layout;
-use layout::label::Label;
+use crate::cells::Cells;
+use crate::grid::Grid;
+use crate::spread::Spread;
+use layout::kind::Kind;
 use layout::place::{Owner, Place};
 
 #[derive(Clone, Copy, PartialEq, Eq, Debug)]
-pub struct Striped {
+pub struct StripedCells {
     grid: Grid,
 }
+
+pub type Striped = Spread<StripedCells>;
 
 impl Striped {
     // None where a number is out of limits.
     pub fn new(members: u64, chunk: u64, depth: u64) -> Option<Striped>
-        ensures { MatchOption result (Gridded members chunk depth → ⊥) (λ l. Measured l.grid.members l.grid.chunk l.grid.chunks members chunk depth) }
+        ensures { MatchOption result (Gridded members chunk depth → ⊥) (λ l. Measured l.cells.grid.members l.cells.grid.chunk l.cells.grid.chunks members chunk depth) }
     {
         let grid = Grid::new(members, chunk, depth)?;
-        Some(Striped { grid })
+        Some(Spread {
+            cells: StripedCells { grid },
+        })
     }
 }
 
-impl Layout for Striped {
-    ghost geometry = { λ s. chunked s.grid.chunk (striped_cells s.grid.members s.grid.chunks) };
+impl Cells for StripedCells {
+    ghost KIND = { kind.Striped };
 
-    ghost named = { λ s. labelled 1 1 s.grid.members s.grid.chunk s.grid.chunks };
+    const KIND: Kind = Kind::Striped;
 
-    ghost lawful = { λ x. striped_lawful x.grid };
+    ghost over = { λ x. x.grid };
 
-    ghost one = { λ x y e. one_name _ _ _ _ (striped_named x.grid) (striped_named y.grid) e };
+    ghost cells = { λ x. striped_cells x.grid.members x.grid.chunks };
 
-    fn label(&self) -> Label {
-        self.grid.label(STRIPED_KIND, 1)
-    }
+    ghost lawful = { λ x. striped_cellular x.grid };
 
-    fn members(&self) -> u64 {
-        self.grid.members
-    }
+    ghost named = { λ x. striped_named x.grid };
 
-    fn depth(&self) -> u64 {
-        self.grid.depth()
+    fn grid(&self) -> Grid {
+        self.grid
     }
 
     fn copies(&self) -> u64 {
         1
     }
 
-    fn loss(&self) -> u64 {
-        0
-    }
-
-    fn row_len(&self) -> u64 {
-        self.grid.row_len(self.grid.members)
+    fn columns(&self) -> u64 {
+        self.grid.members
     }
 
     fn rows(&self) -> u64 {
         self.grid.chunks
     }
 
-    fn capacity(&self) -> u64 {
-        self.grid.capacity(self.grid.chunks, self.grid.members)
+    fn place(&self, number: u64, _copy: u64) -> Place {
+        self.grid.deal(number)
     }
 
-    fn place(&self, sector: u64, copy: u64) -> Place {
-        if sector >= self.capacity() || copy >= 1 {
-            return NOWHERE;
-        }
-        self.grid.deal(sector / self.grid.chunk, sector)
-    }
-
-    fn group(&self, _sector: u64) -> Option<u64> {
+    fn parity(&self, _row: u64) -> Option<u64> {
         None
     }
 
-    fn peers(&self, _group: u64) -> u64 {
-        0
-    }
-
-    fn peer(&self, _group: u64, _index: u64) -> u64 {
-        0
-    }
-
-    fn parity(&self, _group: u64) -> Place {
-        NOWHERE
-    }
-
-    fn owner(&self, place: Place) -> Owner {
-        let Some(cell) = self.grid.cell(place) else {
-            return Owner::Nobody;
-        };
-        Owner::Datum {
-            sector: self.grid.sector(cell, place.1),
-            copy: 0,
-        }
+    fn owner(&self, cell: Place) -> Owner {
+        self.grid
+            .number(cell)
+            .map_or(Owner::Nobody, |sector| Owner::Datum { sector, copy: 0 })
     }
 }

@@ -1,23 +1,30 @@
 -- From what a layout answers to the definitions, for every lawful layout.
-use Rattle.std.proofs.Common.{◌≡◌, ℕ, ◌+◌, ◌-◌, ◌*◌, ◌/◌, ◌<◌, ◌≤◌, max, eqb, ltb, Some, None, sym, ap, ◌∙◌, subst, inl, inr, mul-le-mul_right, mul_comm, div-mul-le_self, arith}
-use Rattle.std.proofs.lemmas.Nat.{mul-add-lt, le-div}
+use Rattle.std.proofs.Common.{◌≡◌, ℕ, ◌+◌, ◌*◌, ◌/◌, ◌<◌, ◌≤◌, eqb, ltb, Option, Some, None, MatchOption, sym, ap, ◌∙◌, subst, inl, inr, mul-le-mul_right, mul_comm, add-mul, arith}
+use Rattle.std.specs.Int.{div_ceil}
+use Rattle.std.proofs.lemmas.Grind.{div_ceil_times}
+use Rattle.std.proofs.lemmas.Nat.{mul-add-lt, mul-le}
 use Rattle.std.proofs.lemmas.Bool.{cond-true, cond-false, lt-ltb, eq-eqb, ne_eqb, cases_lt, le-ltb}
 use Rattle.layout.specs.declared.place.Owner.TheVariants.{Parity}
 use Rattle.layout.specs.Geometry.{Geometry, capacity, Only, LedAt}
 use Rattle.layout.specs.Lawful.{Owns, Lawful}
-use Rattle.overlap.specs.Needs.{row_need_lem, owner_need, place_need_lem, led_need, sector_need_lem, most}
+use Rattle.overlap.specs.Needs.{row_need_lem, owner_need, place_need_lem, led_need}
 use Rattle.overlap.specs.Rows.{LiveRows}
 
-pub live_rows_lem : (g : Geometry) → Lawful g → (size len : ℕ) → 1 ≤ size → len ≡ g.row_len → LiveRows g size ((size - 1) / len + 1)
-live_rows_lem g law size len some e =
+pub live_rows_lem : (g : Geometry) → Lawful g → (size len k : ℕ) → len ≡ g.row_len → k ≡ div_ceil size len → LiveRows g size k × (k ≤ size)
+live_rows_lem g law size len k e f =
     let one : 1 ≤ len = omega (arith, law.limits.row_some) in
-    record {
-      live = λ s h. omega (arith, div-mul-le_self (size - 1) len, mul-le-mul_right len (at_most s ((size - 1) / len) h), ap (λ x. s * x) e);
-      all = λ s h. omega (arith, le-div s (size - 1) len (omega arith) (omega (arith, h, ap (λ x. s * x) e)));
-    }
+    let ends = div_ceil_times size len (omega arith) in
+    let rows : k * len ≡ div_ceil size len * len = ap (λ x. x * len) f in
+    let live : (s : ℕ) → s < k → s * len < size = λ s h. omega (arith, ends, rows, mul-le-mul_right len (next s k h)) in (
+      record {
+        live = λ s h. omega (arith, live s h, ap (λ x. s * x) e);
+        all = λ s h. elim (cases_lt s k) [ inl lt ↦ lt | inr le ↦ absurd (omega (arith, h, ends, rows, ap (λ x. s * x) e, mul-le-mul_right len le)) ];
+      },
+      elim (cases_lt size k) [ inl lt ↦ absurd (omega (arith, live size lt, mul-le size 1 size len (omega arith) one)) | inr le ↦ le ],
+    )
   where
-    at_most : (s q : ℕ) → s < q + 1 → s ≤ q
-    at_most s q h = omega arith
+    next : (s k : ℕ) → s < k → s + 1 ≤ k
+    next s k h = omega arith
 
 -- a parity's row is that of its group's first sector
 pub parity_first : (g : Geometry) → Lawful g → (p : ℕ × ℕ) (x r : ℕ) → Parity x ≡ g.owner p
@@ -35,23 +42,22 @@ parity_place_lem g law size p x r n e only m =
 pub sector_below : (t : Geometry) (r k : ℕ) → r < t.rows → k < t.row_len → r * t.row_len + k < capacity t
 sector_below t r k a b = omega (arith, mul-add-lt r t.row_len k t.rows a b, mul_comm t.row_len t.rows)
 
--- a sector that leads a group, and one that does not
-pub led_some : (s t : Geometry) → Lawful t → (size i x m n y : ℕ) (p : ℕ × ℕ) → LedAt t i (Some x)
-    → Only p (x < t.groups) (t.parity x) (0, 0) → n ≡ place_need_lem s size p
-    → m ≡ most (λ j. place_need_lem s size (t.datum i j)) t.copies → y ≡ max m n → y ≡ sector_need_lem s t size i
-led_some s t law size i x m n y p led only a b c =
-    let below : x < t.groups = rw led.2 (law.grouping.joined i led.0 led.1).group in
-    let first : t.peer (t.group i) 0 ≡ i = ap (λ z. t.peer z 0) (sym led.2) ∙ led.3 in
-    let need : led_need s t size i ≡ place_need_lem s size (t.parity (t.group i)) =
-    cond-true (ltb 0 t.groups) _ 0 (lt-ltb 0 t.groups led.0) ∙ cond-true (eqb (t.peer (t.group i) 0) i) _ 0 (eq-eqb (t.peer (t.group i) 0) i first) in
-    let same : n ≡ led_need s t size i = a ∙ (ap (place_need_lem s size) (only.0 below ∙ ap t.parity led.2) ∙ sym need) in
-    c ∙ (ap (λ z. max z n) b ∙ ap (max (most (λ j. place_need_lem s size (t.datum i j)) t.copies)) same)
+-- the end of a target row
+pub row_end : (t : Geometry) → Lawful t → (r len : ℕ) → len ≡ t.row_len → r < t.rows → r * len + len ≤ 268435456
+row_end t law r len e h =
+    omega (arith, law.limits.capacity_most, ap (λ x. t.rows * x) e, mul-le (r + 1) len t.rows len (omega arith) (omega arith), add-mul r 1 len)
 
-pub led_none : (s t : Geometry) (size i m : ℕ) → i < capacity t → LedAt t i None
-    → m ≡ most (λ j. place_need_lem s size (t.datum i j)) t.copies → m ≡ sector_need_lem s t size i
-led_none s t size i m inside led e =
-    let none : led_need s t size i ≡ 0 = elim (cases_lt 0 t.groups) [
+-- what the parity needs: P tells of what was asked for a group
+pub led_is : (s t : Geometry) → Lawful t → (size i n : ℕ) → i < capacity t → (o : Option ℕ) (P : ℕ → Type 0) → LedAt t i o → MatchOption o (n ≡ 0) P
+    → ((x : ℕ) → x < t.groups → P x → n ≡ place_need_lem s size (t.parity x)) → n ≡ led_need s t size i
+led_is s t law size i n inside None P led e asked =
+    e ∙ sym (elim (cases_lt 0 t.groups) [
       | inl lt ↦ cond-true (ltb 0 t.groups) _ 0 (lt-ltb 0 t.groups lt) ∙ cond-false (eqb (t.peer (t.group i) 0) i) _ 0 (ne_eqb (t.peer (t.group i) 0) i (led (lt, inside)))
       | inr le ↦ cond-false (ltb 0 t.groups) _ 0 (le-ltb 0 t.groups le)
-    ] in
-    omega (arith, e, none)
+    ])
+led_is s t law size i n inside (Some x) P led e asked =
+    let below : x < t.groups = rw led.2 (law.grouping.joined i led.0 led.1).group in
+    let first : t.peer (t.group i) 0 ≡ i = ap (λ z. t.peer z 0) (sym led.2) ∙ led.3 in
+    asked x below e
+    ∙ (ap (λ z. place_need_lem s size (t.parity z)) led.2
+    ∙ sym (cond-true (ltb 0 t.groups) _ 0 (lt-ltb 0 t.groups led.0) ∙ cond-true (eqb (t.peer (t.group i) 0) i) _ 0 (eq-eqb (t.peer (t.group i) 0) i first)))

@@ -1,4 +1,4 @@
 pub mod Answering
-pub mod Greatest
+pub mod Most
 pub mod Sharing
 pub mod Windows

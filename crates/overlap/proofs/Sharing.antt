@@ -8,7 +8,7 @@ use Rattle.layout.specs.Geometry.{Geometry, capacity, Is, place_of}
 use Rattle.layout.specs.Lawful.{Owns, Lawful}
 use Rattle.overlap.specs.Needs.{most, row_need_lem, owner_need, place_need_lem, led_need, sector_need_lem, need_of}
 use Rattle.overlap.specs.Rows.{Live, LiveRows, row_of, Shared, Highest}
-use Rattle.overlap.proofs.Greatest.{most_above, most_met}
+use Rattle.overlap.proofs.Most.{most_above, most_met}
 
 -- a live row counts one more than its number
 row_live : (g : Geometry) (size s : ℕ) → Live g size s → row_need_lem g size s ≡ s + 1

@@ -5,7 +5,7 @@ use Rattle.std.proofs.lemmas.Nat.{mul-le}
 use Rattle.layout.specs.Geometry.{Geometry}
 use Rattle.layout.specs.Lawful.{Lawful}
 use Rattle.overlap.specs.Needs.{most, need_of, reach_of, ahead_of, distance_of}
-use Rattle.overlap.proofs.Greatest.{most_above, most_beyond}
+use Rattle.overlap.proofs.Most.{most_above, most_beyond}
 
 -- rows past the target's have no need
 pub need_beyond : (s t : Geometry) (size r : ℕ) → t.rows ≤ r → need_of s t size r ≡ 0

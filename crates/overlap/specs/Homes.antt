@@ -3,6 +3,7 @@ use Rattle.std.specs.Prelude.{◌≡◌, ℕ, ◌+◌, ◌-◌, ◌*◌, ◌/◌
 use Rattle.overlap.specs.declared.walk.Home.{Home}
 use Rattle.overlap.specs.declared.walk.Home.TheVariants.{Source, Target, Backup}
 
+-- On numbers, not on a walk: the layers above say it of a volume before there is one.
 -- p target rows are settled and q source rows are kept, from the first one up
 abbrev pub settled_row : ℕ → ℕ → Bool
 settled_row p r = nat_lt r p

@@ -1,8 +1,9 @@
 -- Need, reach and distance, so that they can be computed.
-use Rattle.std.specs.Prelude.{ℕ, zero, suc, ◌+◌, ◌-◌, ◌*◌, ◌/◌, min, max, cond, ◌==◌, nat_lt}
+use Rattle.std.specs.Prelude.{ℕ, zero, suc, ◌+◌, ◌*◌, ◌/◌, max, cond, ◌==◌, nat_lt}
 use Rattle.layout.specs.declared.place.Owner.{Owner}
 use Rattle.layout.specs.declared.place.Owner.TheVariants.{Datum, Parity, Nobody}
 use Rattle.layout.specs.Geometry.{Geometry}
+use Rattle.overlap.specs.Homes.{window_of}
 
 -- the greatest of f 0 to f (n - 1), or 0
 abbrev pub most : (ℕ → ℕ) → ℕ → ℕ
@@ -40,7 +41,7 @@ reach_of s t size r = most (need_of s t size) (r + 1)
 
 -- the sectors below the size of the first n source rows, from target row r on
 abbrev pub ahead_of : Geometry → Geometry → ℕ → ℕ → ℕ → ℕ
-ahead_of s t size n r = min (n * s.row_len) size - r * t.row_len
+ahead_of s t size n r = window_of s.row_len t.row_len r size n
 
 -- the overlap distance
 abbrev pub distance_of : Geometry → Geometry → ℕ → ℕ

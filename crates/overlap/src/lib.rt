@@ -1,25 +1,24 @@
 // How far a move's target overlaps its source: which source rows have to be kept before a target row may be written.
 #![tactic(auto)]
 
-ghost use Rattle.std.specs.Prelude.{◌≡◌, ℕ, ◌+◌, ◌-◌, ◌*◌, ◌/◌, ◌<◌, ◌≤◌, min};
+ghost use Rattle.std.specs.Prelude.{◌≡◌, ℕ, ◌+◌, ◌-◌, ◌*◌, ◌/◌, ◌<◌, ◌≤◌};
 ghost use Rattle.layout.specs.Geometry.{capacity as room};
-ghost use Rattle.overlap.specs.Needs.{ahead_of, distance_of, need_of, place_need_lem, reach_of, row_need_lem, sector_need_lem};
+ghost use Rattle.overlap.specs.Needs.{ahead_of, distance_of, led_need, most, need_of, place_need_lem, reach_of, row_need_lem, sector_need_lem};
 ghost use Rattle.overlap.specs.Rows.{Highest, Live, LiveRows};
 
 pub mod walk;
 
 use layout::place::{Owner, Place};
 use layout::{Layout, led_group};
+use std::ops::Range;
+use walk::Walk;
 
 // How many source rows are live, that is, have their first sector below the size.
 pub fn live_rows<L: Layout>(source: &L, size: u64) -> u64
     ensures rows { LiveRows (L.Layout.geometry source.now) size result }
     ensures bound { result ≤ size }
 {
-    if size == 0 {
-        return 0;
-    }
-    (size - 1) / source.row_len() + 1
+    size.div_ceil(source.row_len())
 }
 
 // The need of a target row: one more than the highest live source row that shares a place with it, parity places too, or 0.
@@ -34,11 +33,9 @@ pub fn need<Old: Layout, New: Layout>(source: &Old, target: &New, size: u64, row
     }
     let len = target.row_len();
     let first = row * len;
-    let mut most: u64 = 0;
-    for index in 0..len {
-        most = most.max(sector_need(source, target, size, first + index));
-    }
-    most
+    greatest(first..first + len, |sector| {
+        sector_need(source, target, size, sector)
+    })
 }
 
 // The reach of a target row: the greatest need of the rows up to it. It never falls from row to row.
@@ -46,12 +43,9 @@ pub fn reach<Old: Layout, New: Layout>(source: &Old, target: &New, size: u64, ro
     ensures value { result ≡ reach_of (Old.Layout.geometry source.now) (New.Layout.geometry target.now) size row }
     ensures rises { (k : ℕ) → row ≤ k → result ≤ reach_of (Old.Layout.geometry source.now) (New.Layout.geometry target.now) size k }
 {
-    let rows = target.rows();
-    let mut most: u64 = 0;
-    for at in 0..row.saturating_add(1).min(rows) {
-        most = most.max(need(source, target, size, at));
-    }
-    most
+    greatest(0..row.saturating_add(1).min(target.rows()), |at| {
+        need(source, target, size, at)
+    })
 }
 
 // The overlap distance: the most sectors that have to be kept at once, over all target rows of the move.
@@ -62,34 +56,51 @@ pub fn distance<Old: Layout, New: Layout>(source: &Old, target: &New, size: u64)
 {
     let mut reach: u64 = 0;
     let mut most: u64 = 0;
+    // The reach is carried on from row to row: asked anew, it would take all the rows before again.
     for row in 0..target.rows() {
         reach = reach.max(need(source, target, size, row));
-        most = most.max(kept_ahead(source.row_len(), reach, size, target.row_len(), row));
+        let walk = Walk {
+            source_len: source.row_len(),
+            target_len: target.row_len(),
+            settled: row,
+            kept: reach,
+            size,
+            backup: 0,
+        };
+        most = most.max(walk.window(reach));
     }
     most
 }
 
-// How many sectors of the first `reach` source rows lie below the size and not below the target row.
-fn kept_ahead(source_len: u64, reach: u64, size: u64, target_len: u64, row: u64) -> u64
-    ensures { result ≡ min (reach * source_len) size - row * target_len }
-{
-    let end = reach.saturating_mul(source_len).min(size);
-    end.saturating_sub(row.saturating_mul(target_len))
-}
-
 // What one target sector needs: its copies, and the parity of its group where it leads one.
 fn sector_need<Old: Layout, New: Layout>(source: &Old, target: &New, size: u64, sector: u64) -> u64
-    requires { sector < room (New.Layout.geometry target.now) }
-    ensures { result ≡ sector_need_lem (Old.Layout.geometry source.now) (New.Layout.geometry target.now) size sector }
+    ensures { sector < room (New.Layout.geometry target.now) → result ≡ sector_need_lem (Old.Layout.geometry source.now) (New.Layout.geometry target.now) size sector }
+{
+    greatest(0..target.copies(), |copy| {
+        place_need(source, size, target.place(sector, copy))
+    })
+    .max(parity_need(source, target, size, sector))
+}
+
+// What the parity of the group needs that a target sector leads, or 0.
+fn parity_need<Old: Layout, New: Layout>(source: &Old, target: &New, size: u64, sector: u64) -> u64
+    ensures { sector < room (New.Layout.geometry target.now) → result ≡ led_need (Old.Layout.geometry source.now) (New.Layout.geometry target.now) size sector }
+{
+    led_group(target, sector).map_or(0, |group| {
+        place_need(source, size, target.parity(group))
+    })
+}
+
+// The greatest of what `ask` answers in a range, or 0. A loop, since `map` and `max` took six times as long in `distance`.
+fn greatest<F: Fn(u64) -> u64>(range: Range<u64>, ask: F) -> u64
+    requires { F.IsAlwaysCallable ask }
+    ensures { (h : ℕ → ℕ) → ((i y : ℕ) → i < range.end - range.start → F.post ask (range.start + i) y → y ≡ h i) → result ≡ most h (range.end - range.start) }
 {
     let mut most: u64 = 0;
-    for copy in 0..target.copies() {
-        most = most.max(place_need(source, size, target.place(sector, copy)));
+    for number in range.start..range.end {
+        most = most.max(ask(number));
     }
-    match led_group(target, sector) {
-        Some(group) => most.max(place_need(source, size, target.parity(group))),
-        None => most,
-    }
+    most
 }
 
 // One more than the live source row that has this place, or 0.

@@ -2,6 +2,8 @@
 ghost use Rattle.std.specs.Prelude.{◌≡◌, ◌+◌, ◌-◌, ◌*◌, ◌^◌, ◌<◌, ◌≤◌, min, Decides};
 ghost use Rattle.overlap.specs.Homes.{KeepSpan, home_of, kept_row, settled_row, window_of};
 
+use std::ops::Range;
+
 // the place of which the content of a sector is read and to which it is written
 #[derive(Clone, Copy, PartialEq, Eq, Debug)]
 pub enum Home {
@@ -24,13 +26,6 @@ pub struct Walk {
     // the backup slots
     pub backup: u64,
     ghost rows: { (1 ≤ source_len) × (1 ≤ target_len) },
-}
-
-// The sectors from one up to, and without, another.
-#[derive(Clone, Copy, PartialEq, Eq, Debug)]
-pub struct Span {
-    pub from: u64,
-    pub to: u64,
 }
 
 impl Walk {
@@ -84,33 +79,26 @@ impl Walk {
     }
 
     // The sectors of the next source row that are to be kept: those below the size that are not settled.
-    pub fn next_kept(&self) -> Span
-        ensures { KeepSpan self.now.source_len self.now.target_len self.now.settled self.now.kept self.now.size result.from result.to }
+    pub fn next_kept(&self) -> Range<u64>
+        ensures { KeepSpan self.now.source_len self.now.target_len self.now.settled self.now.kept self.now.size result.start result.end }
     {
         let first = self.kept.saturating_mul(self.source_len);
         let end = self.kept.saturating_add(1).saturating_mul(self.source_len);
-        Span {
-            from: first.max(self.settled_end()),
-            to: end.min(self.size),
-        }
+        first.max(self.settled_end())..end.min(self.size)
     }
 
     // How many sectors stand in backup slots once the next source row is kept.
     pub fn next_window(&self) -> u64
         ensures { result ≡ window_of self.now.source_len self.now.target_len self.now.settled self.now.size (self.now.kept + 1) }
     {
-        self.next_kept().to.saturating_sub(self.settled_end())
+        self.next_kept().end.saturating_sub(self.settled_end())
     }
 
     // The sectors of a target row.
-    pub fn target_row(&self, row: u64) -> Span
-        ensures { (row + 1) * self.now.target_len < 2 ^ 64 → (result.from ≡ row * self.now.target_len) × (result.to ≡ (row + 1) * self.now.target_len) }
+    pub fn target_row(&self, row: u64) -> Range<u64>
+        ensures { (row + 1) * self.now.target_len < 2 ^ 64 → (result.start ≡ row * self.now.target_len) × (result.end ≡ (row + 1) * self.now.target_len) }
     {
-        let from = row.saturating_mul(self.target_len);
-        Span {
-            from,
-            to: row.saturating_add(1).saturating_mul(self.target_len),
-        }
+        row.saturating_mul(self.target_len)..row.saturating_add(1).saturating_mul(self.target_len)
     }
 
     // The end of the settled rows.

@@ -1,8 +1,0 @@
-use Rattle.std.proofs.Common.{arith}
-use Rattle.std.proofs.lemmas.Nat.{mul-le}
-use Rattle.kinds.proofs.left_symmetric.LeftSymmetricLayout.capacity.Goals as goal
-
-pub capacity-requires : goal.capacity-requires
-capacity-requires c =
-    let g = c.args.self.now.grid in
-    (omega arith, (omega arith, (omega arith, mul-le g.chunks c.data.result g.chunks g.members (omega arith) (omega arith))))
