@@ -1,9 +1,9 @@
 -- What a drill shelf means, and what its operations do by the schedule, beside the rules of every shelf.
-use Rattle.std.specs.Prelude.{◌≡◌, ℕ, ◌+◌, ◌-◌, ◌^◌, min, Bool, true, false, cond, vec_items}
+use Rattle.std.specs.Prelude.{◌≡◌, ℕ, ◌+◌, ◌-◌, ◌^◌, min, Bool, false, cond, vec_items, Ok, Err}
 use Rattle.shelf.specs.Meaning.{Meaning}
-use Rattle.shelf.specs.Trials.{trial_meaning}
-use Rattle.shelf.specs.declared.Answer.{Answer}
-use Rattle.shelf.specs.declared.Answer.TheVariants.{Off}
+use Rattle.shelf.specs.Trials.{means}
+use Rattle.shelf.specs.Answers.{Answer}
+use Rattle.shelf.specs.declared.Failure.TheVariants.{Off}
 use Rattle.shelf.specs.declared.trial.TrialShelf.{TrialShelf}
 use Rattle.drill.specs.Schedules.{goes, goes_before, power_at_lem}
 use Rattle.drill.specs.declared.DrillShelf.{DrillShelf}
@@ -12,7 +12,7 @@ use Rattle.drill.specs.declared.schedule.Power.TheVariants.{GoesBefore}
 
 -- the shelf within
 abbrev pub inner_meaning : TrialShelf → Meaning
-inner_meaning t = trial_meaning t.members t.sectors (vec_items t.bytes) t.controls
+inner_meaning t = means t
 
 -- a shelf that is off where it is dark, whatever it is else
 abbrev pub darkened : Bool → Meaning → Meaning
@@ -38,9 +38,9 @@ pub record Darkens (a b : Meaning) : Type 0 where
   pub current : (k s : ℕ) → b.current k s ≡ a.current k s
 
 -- an operation has begun: it goes on, and the shelf within is what the drill shelf was; or it is cut off
-abbrev pub Begun : DrillShelf → DrillShelf → Bool → Type 0
-Begun a b true = (b.dark ≡ false) × (inner_meaning b.inner ≡ drill_meaning a)
-Begun a b false = Darkens (drill_meaning a) (drill_meaning b)
+abbrev pub Begun : DrillShelf → DrillShelf → Answer → Type 0
+Begun a b (Ok x) = (b.dark ≡ false) × (inner_meaning b.inner ≡ drill_meaning a)
+Begun a b (Err e) = (e ≡ Off) × Darkens (drill_meaning a) (drill_meaning b)
 
 -- what becomes of the power at the next operation
 abbrev pub power_next : DrillShelf → Power
@@ -69,7 +69,7 @@ dark_after a = cond (drill_meaning a).on (goes_before (power_next a)) a.dark
 pub record Drilled (Inside : Type 0) (a b : DrillShelf) (r : Answer) : Type 0 where
   pub timed : Inside → Timed (counted a) a b
   pub dark : Inside → b.dark ≡ dark_after a
-  pub cut : Inside → power_next a ≡ GoesBefore → (r ≡ Off) × Darkens (drill_meaning a) (drill_meaning b)
+  pub cut : Inside → power_next a ≡ GoesBefore → (r ≡ (Err Off)) × Darkens (drill_meaning a) (drill_meaning b)
   pub refused : (Inside → ⊥) → b ≡ a
 
 -- a restart by the schedule: it always counts, each cut leaves the shelf dark, and one before it lets nothing else happen

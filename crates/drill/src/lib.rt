@@ -1,17 +1,20 @@
 // The drill shelf: a trial shelf whose power can go at every operation, restarts among them, by a schedule.
 #![tactic(auto)]
 
-ghost use Rattle.std.specs.Prelude.{◌≡◌, ◌<◌, true, false, length};
+ghost use Rattle.std.specs.Prelude.{◌≡◌, ◌<◌, true, false, length, Err};
+ghost use Rattle.shelf.specs.Answers.{done};
 ghost use Rattle.shelf.specs.Meaning.{Flushed, Ranged, Reads, Restarts, Writes};
 ghost use Rattle.drill.specs.Drills.{Begun, Darkens, DrillRestarts, Drilled, Timed, counted, dark_after, drill_meaning, inner_meaning, power_next, ticked};
 ghost use Rattle.drill.specs.Schedules.{losing_at, word_at};
+ghost use Rattle.shelf.specs.declared.Failure.TheVariants.{Off};
 ghost use Rattle.drill.specs.declared.schedule.Power.TheVariants.{GoesAfter, GoesBefore};
 ghost use Rattle.std.proofs.Common.{rules};
 
 use schedule::Power;
+use sector::Sector;
 use shelf::image::Image;
 use shelf::trial::TrialShelf;
-use shelf::{Answer, Shelf};
+use shelf::{Answer, Failure, Shelf};
 
 mod schedule;
 mod through;
@@ -107,26 +110,26 @@ impl DrillShelf {
         self.dark = true;
     }
 
-    // Begins an operation in range and says whether it goes on to the shelf within.
-    fn begin(&mut self) -> bool
+    // Begins an operation in range: it goes on to the shelf within, or the power is off.
+    fn begin(&mut self) -> Answer
         ensures begun { Begun self.old self.new result }
         ensures timed { Timed (counted self.old) self.old self.new }
         ensures dark { self.new.dark ≡ dark_after self.old }
-        ensures cut { power_next self.old ≡ GoesBefore → result ≡ false }
-        ensures fuse { power_next self.old ≡ GoesAfter → result ≡ true → self.new.inner.controls.fuse ≡ 0 }
+        ensures cut { power_next self.old ≡ GoesBefore → result ≡ Err Off }
+        ensures fuse { power_next self.old ≡ GoesAfter → result ≡ done → self.new.inner.controls.fuse ≡ 0 }
     {
         if self.dark || !self.inner.is_on() {
-            return false;
+            return Err(Failure::Off);
         }
         match self.strike() {
-            Power::Stays => true,
+            Power::Stays => Ok(()),
             Power::GoesBefore => {
                 self.go_dark();
-                false
+                Err(Failure::Off)
             }
             Power::GoesAfter => {
                 self.inner.set_fuse(0);
-                true
+                Ok(())
             }
         }
     }
@@ -179,42 +182,27 @@ impl Shelf for DrillShelf {
         ensures reads { Reads member sector buffer.old buffer.new (drill_meaning self.old) (drill_meaning self.new) result }
         ensures drilled { Drilled (Ranged (drill_meaning self.old) member sector (length buffer.old)) self.old self.new result }
     {
-        if !through::in_range(&self.inner, member, sector, buffer.len()) {
-            return Answer::Refused;
-        }
-        if self.begin() {
-            through::read(&mut self.inner, member, sector, buffer)
-        } else {
-            Answer::Off
-        }
+        through::in_range(&self.inner, member, sector, buffer.len())?;
+        self.begin()?;
+        through::read(&mut self.inner, member, sector, buffer)
     }
 
     fn write(&mut self, member: u64, sector: u64, buffer: &[u8]) -> Answer
         ensures writes { Writes member sector buffer.now (drill_meaning self.old) (drill_meaning self.new) result }
         ensures drilled { Drilled (Ranged (drill_meaning self.old) member sector (length buffer.now)) self.old self.new result }
     {
-        if !through::in_range(&self.inner, member, sector, buffer.len()) {
-            return Answer::Refused;
-        }
-        if self.begin() {
-            through::write(&mut self.inner, member, sector, buffer)
-        } else {
-            Answer::Off
-        }
+        through::in_range(&self.inner, member, sector, buffer.len())?;
+        self.begin()?;
+        through::write(&mut self.inner, member, sector, buffer)
     }
 
     fn flush(&mut self, member: u64) -> Answer
         ensures flushed { Flushed member (drill_meaning self.old) (drill_meaning self.new) result }
         ensures drilled { Drilled (member < (drill_meaning self.old).members) self.old self.new result }
     {
-        if !through::has_member(&self.inner, member) {
-            return Answer::Refused;
-        }
-        if self.begin() {
-            through::flush(&mut self.inner, member)
-        } else {
-            Answer::Off
-        }
+        through::has_member(&self.inner, member)?;
+        self.begin()?;
+        through::flush(&mut self.inner, member)
     }
 
     fn restart(&mut self) -> bool
@@ -234,7 +222,7 @@ impl Shelf for DrillShelf {
 }
 
 impl Image for DrillShelf {
-    fn current(&self, member: u64, sector: u64, buffer: &mut [u8]) -> bool {
-        through::current(&self.inner, member, sector, buffer)
+    fn current(&self, member: u64, sector: u64) -> Option<Sector> {
+        through::current(&self.inner, member, sector)
     }
 }

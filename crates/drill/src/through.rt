@@ -1,25 +1,33 @@
 // The operations of a shelf by the trait's contracts alone, so that nothing above leans on how the shelf within is made.
-ghost use Rattle.std.specs.Prelude.{◌≡◌, length};
+ghost use Rattle.std.specs.Prelude.{◌≡◌};
 ghost use Rattle.shelf.specs.Meaning.{Flushed, Reads, Restarts, Writes};
 ghost use Rattle.shelf.specs.Shown.{Shown};
 ghost use Rattle.drill.specs.Ranges.{InRangeIs, MemberIs};
 
-use sector::SECTOR;
+use sector::{SECTOR, Sector};
 use shelf::image::Image;
-use shelf::{Answer, Shelf};
+use shelf::{Answer, Failure, Shelf};
 
-// Whether a read or a write of the sector with a buffer of this length is in range.
-pub fn in_range<S: Shelf>(shelf: &S, member: u64, sector: u64, length: usize) -> bool
+// Refuses a read or a write out of range.
+pub fn in_range<S: Shelf>(shelf: &S, member: u64, sector: u64, length: usize) -> Answer
     ensures { InRangeIs (S.Shelf.meaning shelf.now) member sector length result }
 {
-    member < shelf.members() && sector < shelf.sectors() && length == SECTOR
+    if member < shelf.members() && sector < shelf.sectors() && length == SECTOR {
+        Ok(())
+    } else {
+        Err(Failure::OutOfRange)
+    }
 }
 
-// Whether the shelf has such a member, present or absent.
-pub fn has_member<S: Shelf>(shelf: &S, member: u64) -> bool
+// Refuses a flush of a member that the shelf has not, present or absent.
+pub fn has_member<S: Shelf>(shelf: &S, member: u64) -> Answer
     ensures { MemberIs (S.Shelf.meaning shelf.now) member result }
 {
-    member < shelf.members()
+    if member < shelf.members() {
+        Ok(())
+    } else {
+        Err(Failure::OutOfRange)
+    }
 }
 
 pub fn read<S: Shelf>(shelf: &mut S, member: u64, sector: u64, buffer: &mut [u8]) -> Answer
@@ -46,8 +54,8 @@ pub fn restart<S: Shelf>(shelf: &mut S) -> bool
     shelf.restart()
 }
 
-pub fn current<S: Image>(shelf: &S, member: u64, sector: u64, buffer: &mut [u8]) -> bool
-    ensures { Shown member sector buffer.old buffer.new (S.Shelf.meaning shelf.now) result }
+pub fn current<S: Image>(shelf: &S, member: u64, sector: u64) -> Option<Sector>
+    ensures { Shown member sector (S.Shelf.meaning shelf.now) result }
 {
-    shelf.current(member, sector, buffer)
+    shelf.current(member, sector)
 }

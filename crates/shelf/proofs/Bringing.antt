@@ -4,10 +4,9 @@ use Rattle.std.proofs.lemmas.Nat.{mul-le}
 use Rattle.std.proofs.lemmas.Bool.{cases_Bool, cases_lt, cases_order, cond-true, cond-false, lt-ltb, le-ltb, both_ways}
 use Rattle.shelf.specs.Meaning.{OneContent, Restarts, Untouched}
 use Rattle.shelf.specs.Runs.{ChosenAlone, chosen_bit, chosen_of, image_of, sector_at}
-use Rattle.shelf.specs.Trials.{BroughtAlone, BroughtOneAlone, Trial, TrialRestarts, restarted, trial_meaning}
+use Rattle.shelf.specs.Trials.{BroughtAlone, BroughtOneAlone, Trial, TrialRestarts, means, restarted, trial_meaning}
 use Rattle.shelf.specs.declared.controls.Controls.{Controls}
-use Rattle.shelf.proofs.Images.{cell_inside, image_in, image_same}
-use Rattle.shelf.proofs.Trially.{means}
+use Rattle.shelf.proofs.Cells.{cell_inside, image_in, image_same}
 
 -- the sectors of one member end where those of the next begin
 pub member_end : (z k n : ℕ) → k < n → k * z + z ≤ n * z

@@ -2,7 +2,7 @@
 use Rattle.std.proofs.Common.{◌≡◌, ℕ, ◌+◌, ◌*◌, ◌<◌, ◌≤◌, cond, ◌⊎◌, List, length, take, drop, sym, refl, ap, ◌∙◌, inl, inr, arith}
 use Rattle.std.proofs.lemmas.Bool.{cases_Bool, cases_order, cond-true, cond-false}
 use Rattle.shelf.specs.Runs.{ChosenAlone, Has, chosen_bit, chosen_of, sector_at, sector_put}
-use Rattle.shelf.proofs.Images.{put_after, put_length, put_other, put_same, sector_length}
+use Rattle.shelf.proofs.Cells.{put_after, put_length, put_other, put_same, sector_length}
 
 -- one sector was written over by another, which is then what both hold
 record Joined (run new : List ℕ) (from to : ℕ) : Type 0 where

@@ -4,8 +4,8 @@ use Rattle.std.proofs.lemmas.Bool.{lt-ltb}
 use Rattle.shelf.specs.Meaning.{Kept, WriteIn, Writes, plain_meaning}
 use Rattle.shelf.specs.Plains.{Plain, PlainWrites}
 use Rattle.shelf.specs.Runs.{sector_put}
-use Rattle.shelf.specs.declared.Answer.{Answer}
-use Rattle.shelf.proofs.Images.{cell_inside, cell_one, image_other, image_put}
+use Rattle.shelf.specs.Answers.{Answer}
+use Rattle.shelf.proofs.Cells.{cell_inside, cell_one, image_other, image_put}
 
 plain_kept : (m z : ℕ) (run new : List ℕ) (k : ℕ) → Kept k (plain_meaning m z run) (plain_meaning m z new)
 plain_kept m z run new k = record { members = refl; sectors = refl; off_stays = λ e. e; absent_stays = λ e. e; others = λ j ne. refl }

@@ -1,10 +1,10 @@
 -- The laws of the relation.
-use Rattle.std.proofs.Common.{◌≡◌, ℕ, ◌<◌, Bool, true, false, ◌⊎◌, List, length, sym, refl, ap, ◌∙◌, subst, inl, inr, arith}
+use Rattle.std.proofs.Common.{◌≡◌, ℕ, ◌<◌, Bool, true, false, ◌⊎◌, List, length, sym, refl, ap, ◌∙◌, subst, inl, inr, arith, Ok, Err}
 use Rattle.std.proofs.lemmas.Bool.{both_ways, cases_Bool, cases_eq, cases_lt}
 use Rattle.shelf.specs.Meaning.{FlushIn, Flushed, Gives, Kept, Meaning, OneContent, Ranged, ReadIn, Reads, Restarts, Sets, Settles, Tells, Untouched, WriteIn, Writes}
 use Rattle.shelf.specs.Relation.{Allows, Both, Keeps, Repeats, Stays, cut}
-use Rattle.shelf.specs.declared.Answer.{Answer}
-use Rattle.shelf.specs.declared.Answer.TheVariants.{Done, Absent, Off, Refused}
+use Rattle.shelf.specs.Answers.{Answer, done}
+use Rattle.shelf.specs.declared.Failure.TheVariants.{Absent, Off, OutOfRange}
 
 -- in range or not
 ranged : (a : Meaning) (m s n : ℕ) → Ranged a m s n ⊎ (Ranged a m s n → ⊥)
@@ -19,7 +19,7 @@ ranged a m s n = elim (cases_lt m a.members) [
   ]
 ]
 
-done_refused : Done ≡ Refused → ⊥
+done_refused : ◌≡◌ {A = Answer} done (Err OutOfRange) → ⊥
 done_refused e = let z : ◌≡◌ {A = ℕ} 0 1 = cc in omega arith
 
 -- the arguments of the second of two operations
@@ -70,19 +70,19 @@ read_twice m s old mid other new a b c r t long f g = record {
 
 -- a write leaves the old content or the new one
 sets_or : (r : Answer) (content old new : List ℕ) → Sets r content old new → (new ≡ old) ⊎ (new ≡ content)
-sets_or Done content old new e = inr e
-sets_or Absent content old new e = inl e
-sets_or Off content old new e = e
-sets_or Refused content old new e = inl e
+sets_or (Ok x) content old new e = inr e
+sets_or (Err Absent) content old new e = inl e
+sets_or (Err Off) content old new e = e
+sets_or (Err OutOfRange) content old new e = inl e
 
-sets_twice : (t : Answer) (m : ℕ) (c : Meaning) (content old mid new : List ℕ) → (t ≡ Absent → ⊥) → Tells t m c → (mid ≡ old) ⊎ (mid ≡ content)
+sets_twice : (t : Answer) (m : ℕ) (c : Meaning) (content old mid new : List ℕ) → (t ≡ Err Absent → ⊥) → Tells t m c → (mid ≡ old) ⊎ (mid ≡ content)
     → Sets t content mid new → Sets t content old new
-sets_twice Done m c content old mid new ne tell way e = e
-sets_twice Absent m c content old mid new ne tell way e = absurd (ne refl)
-sets_twice Off m c content old mid new ne tell way e = elim e [ inl d ↦ elim way [ inl w ↦ inl (d ∙ w) | inr w ↦ inr (d ∙ w) ] | inr d ↦ inr d ]
-sets_twice Refused m c content old mid new ne tell way e = absurd tell
+sets_twice (Ok x) m c content old mid new ne tell way e = e
+sets_twice (Err Absent) m c content old mid new ne tell way e = absurd (ne refl)
+sets_twice (Err Off) m c content old mid new ne tell way e = elim e [ inl d ↦ elim way [ inl w ↦ inl (d ∙ w) | inr w ↦ inr (d ∙ w) ] | inr d ↦ inr d ]
+sets_twice (Err OutOfRange) m c content old mid new ne tell way e = absurd tell
 
-write_twice : (m s : ℕ) (content : List ℕ) (a b c : Meaning) (r t : Answer) → (t ≡ Absent → ⊥)
+write_twice : (m s : ℕ) (content : List ℕ) (a b c : Meaning) (r t : Answer) → (t ≡ Err Absent → ⊥)
     → Writes m s content a b r → Writes m s content b c t → Writes m s content a c t
 write_twice m s content a b c r t ne f g = record {
   inside = λ q. (let first = f.inside q in
@@ -173,16 +173,16 @@ pub repeats : Repeats
 repeats = record { read = read_twice; write = write_twice; flush = flush_twice; restart = restart_twice }
 
 -- what done tells: it was in range
-write_in : (m s : ℕ) (content : List ℕ) (a b : Meaning) → Writes m s content a b Done → WriteIn m s content a b Done
+write_in : (m s : ℕ) (content : List ℕ) (a b : Meaning) → Writes m s content a b done → WriteIn m s content a b done
 write_in m s content a b f = elim (ranged a m s (length content)) [ inl q ↦ f.inside q | inr out ↦ absurd (done_refused (f.outside out).0) ]
 
-read_in : (m s : ℕ) (old new : List ℕ) (a b : Meaning) → Reads m s old new a b Done → ReadIn m s old new a b Done
+read_in : (m s : ℕ) (old new : List ℕ) (a b : Meaning) → Reads m s old new a b done → ReadIn m s old new a b done
 read_in m s old new a b f = elim (ranged a m s (length old)) [ inl q ↦ f.inside q | inr out ↦ absurd (done_refused (f.outside out).0) ]
 
-flush_in : (m : ℕ) (a b : Meaning) → Flushed m a b Done → FlushIn m a b Done
+flush_in : (m : ℕ) (a b : Meaning) → Flushed m a b done → FlushIn m a b done
 flush_in m a b f = elim (cases_lt m a.members) [ inl q ↦ f.inside q | inr out ↦ absurd (done_refused (f.outside (λ q. omega arith)).0) ]
 
-lasts : (m s : ℕ) (a b c : Meaning) (r : Bool) → Flushed m a b Done → Restarts b c r → Both c m s (a.current m s)
+lasts : (m s : ℕ) (a b c : Meaning) (r : Bool) → Flushed m a b done → Restarts b c r → Both c m s (a.current m s)
 lasts m s a b c r f g =
     let done = flush_in m a b f in
     let now : b.current m s ≡ a.current m s = done.current m s in

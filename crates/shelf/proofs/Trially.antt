@@ -1,18 +1,14 @@
 -- The operations of the trial shelf, by its controls and its images.
-use Rattle.std.proofs.Common.{◌≡◌, ℕ, zero, suc, ◌+◌, ◌*◌, ◌<◌, ◌≤◌, Bool, true, false, cond, ltb, ◌⊎◌, List, [], ◌∷◌, length, get_or, take, set, sym, refl, ap, ◌∙◌, subst, inl, inr, add-mul, zero-add, arith, get_or-set_other}
+use Rattle.std.proofs.Common.{◌≡◌, ℕ, zero, suc, ◌+◌, ◌*◌, ◌<◌, ◌≤◌, Bool, true, false, cond, ltb, ◌⊎◌, List, [], ◌∷◌, length, get_or, take, set, sym, refl, ap, ◌∙◌, subst, inl, inr, add-mul, zero-add, arith, get_or-set_other, Ok, Err}
 use Rattle.std.proofs.lemmas.Nat.{mul-le}
 use Rattle.std.proofs.lemmas.Bool.{cases_Bool, cases_eq, cases_lt, cond-true, cond-false, lt-ltb, le-ltb, both_ways}
 use Rattle.shelf.specs.Meaning.{FlushIn, Flushed, Flushes, Gives, Kept, Meaning, ReadIn, Reads, Sets, Tells, WriteIn, Writes}
 use Rattle.shelf.specs.Runs.{InRange, PulledAlone, image_of, sector_at, sector_put}
-use Rattle.shelf.specs.Trials.{FlushedRun, Trial, TrialFlushes, TrialReads, TrialWrites, answer_after, answer_of, given_by, struck, trial_meaning}
-use Rattle.shelf.specs.declared.Answer.{Answer}
-use Rattle.shelf.specs.declared.Answer.TheVariants.{Done, Absent, Off, Refused}
+use Rattle.shelf.specs.Trials.{FlushedRun, Trial, TrialFlushes, TrialReads, TrialWrites, answer_after, answer_of, given_by, means, struck, trial_meaning}
+use Rattle.shelf.specs.Answers.{Answer, done}
+use Rattle.shelf.specs.declared.Failure.TheVariants.{Absent, Off, OutOfRange}
 use Rattle.shelf.specs.declared.controls.Controls.{Controls}
-use Rattle.shelf.proofs.Images.{cell_inside, cell_one, image_in, image_other, image_put, image_same}
-
--- what a state means
-abbrev pub means : Trial → Meaning
-means t = trial_meaning t.members t.sectors t.run t.controls
+use Rattle.shelf.proofs.Cells.{cell_inside, cell_one, image_in, image_other, image_put, image_same}
 
 -- what an answer tells
 pub tells_after : (m z : ℕ) (run : List ℕ) (d : Controls) (k : ℕ) (r : Answer) → k < m → r ≡ answer_after d k → Tells r k (trial_meaning m z run d)
@@ -93,10 +89,8 @@ trial_reads k s old new a b r h = record {
 }
   where
     gives_by : (r : Answer) (x y old new : List ℕ) → x ≡ y → new ≡ given_by r x old → Gives r y old new
-    gives_by Done x y old new e f = f ∙ e
-    gives_by Absent x y old new e f = f
-    gives_by Off x y old new e f = f
-    gives_by Refused x y old new e f = f
+    gives_by (Ok u) x y old new e f = f ∙ e
+    gives_by (Err u) x y old new e f = f
 
 -- a write that reached the member's current image
 reached : (m z : ℕ) (run : List ℕ) (c : Controls) (k s : ℕ) (bytes : List ℕ) (r : Answer) → m * z * 2 * 512 ≤ length run → InRange m z k s (length bytes)
@@ -130,26 +124,26 @@ missed m z run c k s bytes r lt tell way = record {
   settles = record { settled = λ j t. inl refl };
   elsewhere = λ j t apart. refl;
   tells = tells_after m z run (struck c k) k r lt tell;
-  sets = sets_same r bytes _ (λ done. elim way [
-    | inl off ↦ other_than_done (struck c k) k (inl (ap (λ (d : Controls). d.on) (cond-false c.on _ _ off) ∙ off)) (sym tell ∙ done)
-    | inr gone ↦ other_than_done (struck c k) k (inr gone) (sym tell ∙ done)
+  sets = sets_same r bytes _ (λ e. elim way [
+    | inl off ↦ other_than_done (struck c k) k (inl (ap (λ (d : Controls). d.on) (cond-false c.on _ _ off) ∙ off)) (sym tell ∙ e)
+    | inr gone ↦ other_than_done (struck c k) k (inr gone) (sym tell ∙ e)
   ]);
 }
   where
-    other_than_done : (d : Controls) (k : ℕ) → (d.on ≡ false) ⊎ (get_or d.present k false ≡ false) → answer_after d k ≡ Done → ⊥
-    other_than_done d k way done = elim (cases_Bool d.on) [
-      | inr off ↦ (let w = cond-false d.on (cond (get_or d.present k false) Done Absent) Off off in let z : ◌≡◌ {A = ℕ} 0 1 = cc in omega arith)
+    other_than_done : (d : Controls) (k : ℕ) → (d.on ≡ false) ⊎ (get_or d.present k false ≡ false) → answer_after d k ≡ done → ⊥
+    other_than_done d k way e = elim (cases_Bool d.on) [
+      | inr off ↦ (let w = cond-false d.on (cond (get_or d.present k false) done (Err Absent)) (Err Off) off in let z : ◌≡◌ {A = ℕ} 0 1 = cc in omega arith)
       | inl on ↦ elim way [
         | inl off ↦ absurd (both_ways d.on off on)
-        | inr gone ↦ (let w = cond-true d.on (cond (get_or d.present k false) Done Absent) Off on in let v = cond-false (get_or d.present k false) Done Absent gone in let z : ◌≡◌ {A = ℕ} 0 1 = cc in omega arith)
+        | inr gone ↦ (let w = cond-true d.on (cond (get_or d.present k false) done (Err Absent)) (Err Off) on in let v = cond-false (get_or d.present k false) done (Err Absent) gone in let z : ◌≡◌ {A = ℕ} 0 1 = cc in omega arith)
       ]
     ]
 
-    sets_same : (r : Answer) (content old : List ℕ) → (r ≡ Done → ⊥) → Sets r content old old
-    sets_same Done content old ne = absurd (ne refl)
-    sets_same Absent content old ne = refl
-    sets_same Off content old ne = inl refl
-    sets_same Refused content old ne = refl
+    sets_same : (r : Answer) (content old : List ℕ) → (r ≡ done → ⊥) → Sets r content old old
+    sets_same (Ok x) content old ne = absurd (ne refl)
+    sets_same (Err Absent) content old ne = refl
+    sets_same (Err Off) content old ne = inl refl
+    sets_same (Err OutOfRange) content old ne = refl
 
 pub trial_writes : (k s : ℕ) (bytes : List ℕ) (a b : Trial) (r : Answer) → a.members * a.sectors * 2 * 512 ≤ length a.run
     → TrialWrites k s bytes a b r → Writes k s bytes (means a) (means b) r
@@ -181,8 +175,8 @@ trial_writes k s bytes a b r whole h = record {
     In q new = WriteIn k s bytes (means a) (trial_meaning a.members a.sectors new (struck a.controls k)) r
 
 -- a flush that settled the member
-settled_member : (m z : ℕ) (run : List ℕ) (c d : Controls) (k : ℕ) (new : List ℕ) → k < m → d ≡ struck c k → Done ≡ answer_after d k
-    → PulledAlone (m * z) (k * z) (k * z + z) run new → FlushIn k (trial_meaning m z run c) (trial_meaning m z new d) Done
+settled_member : (m z : ℕ) (run : List ℕ) (c d : Controls) (k : ℕ) (new : List ℕ) → k < m → d ≡ struck c k → done ≡ answer_after d k
+    → PulledAlone (m * z) (k * z) (k * z + z) run new → FlushIn k (trial_meaning m z run c) (trial_meaning m z new d) done
 settled_member m z run c d k new lt e tell p =
     let current : (j t : ℕ) → image_of m z new (m * z) j t ≡ image_of m z run (m * z) j t = λ j t. image_same m z run new (m * z) j t (λ a b.
     ap (take 512) (p.rest ((m * z + (j * z + t)) * 512) (omega (arith, cell_end m z k lt)))) in
@@ -190,7 +184,7 @@ settled_member m z run c d k new lt e tell p =
       kept = kept_after m z run new c d k lt e;
       settles = record { settled = λ j t. settled_or m z run new k j t p };
       current = current;
-      tells = tells_after m z new d k Done lt tell;
+      tells = tells_after m z new d k done lt tell;
       flushes = λ t. settled_now m z run new k t lt p ∙ sym (current k t);
     }
   where
@@ -224,7 +218,7 @@ settled_member m z run c d k new lt e tell p =
         kept_cell q way = elim way [ inl a ↦ p.below q a | inr a ↦ ap (take 512) (p.rest (q * 512) (omega arith)) ]
 
 -- and one that did not
-unsettled : (m z : ℕ) (run : List ℕ) (c : Controls) (k : ℕ) (r : Answer) → k < m → r ≡ answer_after (struck c k) k → (r ≡ Done → ⊥)
+unsettled : (m z : ℕ) (run : List ℕ) (c : Controls) (k : ℕ) (r : Answer) → k < m → r ≡ answer_after (struck c k) k → (r ≡ done → ⊥)
     → FlushIn k (trial_meaning m z run c) (trial_meaning m z run (struck c k)) r
 unsettled m z run c k r lt tell ne = record {
   kept = kept_after m z run run c (struck c k) k lt refl;
@@ -234,11 +228,9 @@ unsettled m z run c k r lt tell ne = record {
   flushes = nothing r _ ne;
 }
   where
-    nothing : (r : Answer) (b : Meaning) → (r ≡ Done → ⊥) → Flushes r k b
-    nothing Done b ne = absurd (ne refl)
-    nothing Absent b ne = tt
-    nothing Off b ne = tt
-    nothing Refused b ne = tt
+    nothing : (r : Answer) (b : Meaning) → (r ≡ done → ⊥) → Flushes r k b
+    nothing (Ok x) b ne = absurd (ne refl)
+    nothing (Err u) b ne = tt
 
 pub trial_flushes : (k : ℕ) (a b : Trial) (r : Answer) → TrialFlushes k a b r → Flushed k (means a) (means b) r
 trial_flushes k a b r h = record {
@@ -247,10 +239,8 @@ trial_flushes k a b r h = record {
 }
   where
     by : (r : Answer) (new : List ℕ) → k < a.members → r ≡ answer_of a k → FlushedRun r a k new → FlushIn k (means a) (trial_meaning a.members a.sectors new (struck a.controls k)) r
-    by Done new lt tell p = settled_member a.members a.sectors a.run a.controls (struck a.controls k) k new lt refl tell p
-    by Absent new lt tell e = rw e (unsettled a.members a.sectors a.run a.controls k Absent lt tell (λ d. let z : ◌≡◌ {A = ℕ} 0 1 = cc in omega arith))
-    by Off new lt tell e = rw e (unsettled a.members a.sectors a.run a.controls k Off lt tell (λ d. let z : ◌≡◌ {A = ℕ} 0 1 = cc in omega arith))
-    by Refused new lt tell e = rw e (unsettled a.members a.sectors a.run a.controls k Refused lt tell (λ d. let z : ◌≡◌ {A = ℕ} 0 1 = cc in omega arith))
+    by (Ok x) new lt tell p = settled_member a.members a.sectors a.run a.controls (struck a.controls k) k new lt refl tell p
+    by (Err u) new lt tell e = rw e (unsettled a.members a.sectors a.run a.controls k (Err u) lt tell (λ d. let z : ◌≡◌ {A = ℕ} 0 1 = cc in omega arith))
 
 -- the same, by other names of the same
 pub pulled_as : (image first end : ℕ) (old was new now : List ℕ) → old ≡ was → now ≡ new → PulledAlone image first end old new → PulledAlone image first end was now

@@ -1,3 +1,4 @@
+pub mod Answers
 pub mod Fuses
 pub mod Meaning
 pub mod Plains

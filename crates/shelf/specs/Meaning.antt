@@ -1,8 +1,8 @@
 -- What a shelf means, and what each operation makes of it.
-use Rattle.std.specs.Prelude.{◌≡◌, ℕ, ◌<◌, Bool, true, false, ◌⊎◌, List, length, ◌≢◌, nat_lt}
+use Rattle.std.specs.Prelude.{◌≡◌, ℕ, ◌<◌, Bool, true, false, ◌⊎◌, List, length, ◌≢◌, nat_lt, Ok, Err}
 use Rattle.shelf.specs.Runs.{InRange, image_of}
-use Rattle.shelf.specs.declared.Answer.{Answer}
-use Rattle.shelf.specs.declared.Answer.TheVariants.{Done, Absent, Off, Refused}
+use Rattle.shelf.specs.Answers.{Answer}
+use Rattle.shelf.specs.declared.Failure.TheVariants.{Absent, Off, OutOfRange}
 
 -- On or off, which members are there, and for each sector what is settled and what is current. Sectors that a shelf has not hold nothing.
 pub record Meaning : Type 0 where
@@ -39,31 +39,27 @@ SameElsewhere m t a b = (k s : ℕ) → ((k ≡ m) × (s ≡ t) → ⊥) → b.c
 
 -- the answer tells the state afterwards
 abbrev pub Tells : Answer → ℕ → Meaning → Type 0
-Tells Done m b = (b.on ≡ true) × (b.present m ≡ true)
-Tells Absent m b = (b.on ≡ true) × (b.present m ≡ false)
-Tells Off m b = b.on ≡ false
-Tells Refused m b = ⊥
+Tells (Ok x) m b = (b.on ≡ true) × (b.present m ≡ true)
+Tells (Err Absent) m b = (b.on ≡ true) × (b.present m ≡ false)
+Tells (Err Off) m b = b.on ≡ false
+Tells (Err OutOfRange) m b = ⊥
 
 -- a done read gives the current content, and any other leaves the buffer
 abbrev pub Gives : Answer → List ℕ → List ℕ → List ℕ → Type 0
-Gives Done content old new = new ≡ content
-Gives Absent content old new = new ≡ old
-Gives Off content old new = new ≡ old
-Gives Refused content old new = new ≡ old
+Gives (Ok x) content old new = new ≡ content
+Gives (Err e) content old new = new ≡ old
 
 -- a done write sets the current content; off leaves the old or the new, absent the old
 abbrev pub Sets : Answer → List ℕ → List ℕ → List ℕ → Type 0
-Sets Done content old new = new ≡ content
-Sets Absent content old new = new ≡ old
-Sets Off content old new = (new ≡ old) ⊎ (new ≡ content)
-Sets Refused content old new = new ≡ old
+Sets (Ok x) content old new = new ≡ content
+Sets (Err Absent) content old new = new ≡ old
+Sets (Err Off) content old new = (new ≡ old) ⊎ (new ≡ content)
+Sets (Err OutOfRange) content old new = new ≡ old
 
 -- a done flush settles what is current on the member
 abbrev pub Flushes : Answer → ℕ → Meaning → Type 0
-Flushes Done m b = (s : ℕ) → b.settled m s ≡ b.current m s
-Flushes Absent m b = Unit {0}
-Flushes Off m b = Unit {0}
-Flushes Refused m b = Unit {0}
+Flushes (Ok x) m b = (s : ℕ) → b.settled m s ≡ b.current m s
+Flushes (Err e) m b = Unit {0}
 
 pub record ReadIn (m s : ℕ) (old new : List ℕ) (a b : Meaning) (r : Answer) : Type 0 where
   pub kept : Kept m a b
@@ -89,15 +85,15 @@ pub record FlushIn (m : ℕ) (a b : Meaning) (r : Answer) : Type 0 where
 -- each operation, in range or refused
 pub record Reads (m s : ℕ) (old new : List ℕ) (a b : Meaning) (r : Answer) : Type 0 where
   pub inside : Ranged a m s (length old) → ReadIn m s old new a b r
-  pub outside : (Ranged a m s (length old) → ⊥) → (r ≡ Refused) × (b ≡ a) × (new ≡ old)
+  pub outside : (Ranged a m s (length old) → ⊥) → (r ≡ Err OutOfRange) × (b ≡ a) × (new ≡ old)
 
 pub record Writes (m s : ℕ) (content : List ℕ) (a b : Meaning) (r : Answer) : Type 0 where
   pub inside : Ranged a m s (length content) → WriteIn m s content a b r
-  pub outside : (Ranged a m s (length content) → ⊥) → (r ≡ Refused) × (b ≡ a)
+  pub outside : (Ranged a m s (length content) → ⊥) → (r ≡ Err OutOfRange) × (b ≡ a)
 
 pub record Flushed (m : ℕ) (a b : Meaning) (r : Answer) : Type 0 where
   pub inside : m < a.members → FlushIn m a b r
-  pub outside : (m < a.members → ⊥) → (r ≡ Refused) × (b ≡ a)
+  pub outside : (m < a.members → ⊥) → (r ≡ Err OutOfRange) × (b ≡ a)
 
 -- what a restart makes of one sector of a present member: one content, as both
 pub record OneContent (a b : Meaning) (k s : ℕ) : Type 0 where

@@ -1,7 +1,9 @@
 -- Sectors in a run of bytes.
-use Rattle.std.specs.Prelude.{◌≡◌, ℕ, ◌+◌, ◌*◌, ◌/◌, ◌%◌, ◌^◌, ◌<◌, ◌≤◌, Bool, cond, List, [], length, take, drop, Some, None, Ok, Err, Option, Result, ◌==◌, bit_and, nat_lt}
+use Rattle.std.specs.Prelude.{◌≡◌, ℕ, ◌+◌, ◌*◌, ◌/◌, ◌%◌, ◌^◌, ◌<◌, ◌≤◌, Bool, cond, List, [], length, take, drop, Ok, Err, Result, ◌==◌, bit_and, nat_lt}
 use Rattle.answer.specs.declared.Refusal.{Refusal}
 use Rattle.answer.specs.declared.Refusal.TheVariants.{OutOfLimits}
+use Rattle.shelf.specs.declared.Failure.{Failure}
+use Rattle.shelf.specs.declared.Failure.TheVariants.{OutOfRange}
 use Rattle.std.proofs.Math.Seq.{paste}
 
 -- sector `at` of a run
@@ -29,6 +31,11 @@ abbrev pub FitsRun : ℕ → ℕ → ℕ → ℕ → Result Unit Refusal → Typ
 FitsRun m z k b (Ok x) = RunOf m z k b
 FitsRun m z k b (Err e) = (e ≡ OutOfLimits) × (RunOf m z k b → ⊥)
 
+-- what a shelf over a run has: what was asked for where the run fits, else 2 members without sectors
+pub record MadeOf (members sectors images bytes m z : ℕ) : Type 0 where
+  pub fits : RunOf members sectors images bytes → (m ≡ members) × (z ≡ sectors)
+  pub unfit : (RunOf members sectors images bytes → ⊥) → (m ≡ 2) × (z ≡ 0)
+
 -- a member, a sector and a buffer in range
 pub record InRange (members sectors member sector length : ℕ) : Type 0 where
   pub member_below : member < members
@@ -40,22 +47,15 @@ pub record CellAt (members sectors member sector at : ℕ) : Type 0 where
   pub is : at ≡ member * sectors + sector
   pub inside : at < members * sectors
 
-abbrev pub Cell : ℕ → ℕ → ℕ → ℕ → ℕ → Option ℕ → Type 0
-Cell m z k s n None = InRange m z k s n → ⊥
-Cell m z k s n (Some a) = InRange m z k s n × CellAt m z k s a
+abbrev pub Cell : ℕ → ℕ → ℕ → ℕ → ℕ → Result ℕ Failure → Type 0
+Cell m z k s n (Ok a) = InRange m z k s n × CellAt m z k s a
+Cell m z k s n (Err e) = (e ≡ OutOfRange) × (InRange m z k s n → ⊥)
 
 -- a sector q of a run
 abbrev pub Has : List ℕ → ℕ → Type 0
 Has run q = q * 512 + 512 ≤ length run
 
--- after the sectors from `first` up to `end` were copied there from `image` sectors further on
-pub record Pulled (image first end : ℕ) (old new : List ℕ) : Type 0 where
-  pub long : length new ≡ length old
-  pub pulled : (q : ℕ) → first ≤ q → q < end → sector_at new q ≡ sector_at old (image + q)
-  pub below : (q : ℕ) → q < first → sector_at new q ≡ sector_at old q
-  pub above : (q : ℕ) → end ≤ q → Has old q → sector_at new q ≡ sector_at old q
-
--- the same, and no other byte was changed
+-- after the sectors from `first` up to `end` were copied there from `image` sectors further on, and no other byte was changed
 pub record PulledAlone (image first end : ℕ) (old new : List ℕ) : Type 0 where
   pub long : length new ≡ length old
   pub pulled : (q : ℕ) → first ≤ q → q < end → sector_at new q ≡ sector_at old (image + q)
@@ -70,16 +70,7 @@ chosen_bit choice q = bit_and (choice / 2 ^ (q % 32)) 1 == 1
 abbrev pub chosen_of : (choice image : ℕ) → List ℕ → ℕ → List ℕ
 chosen_of choice image run q = cond (chosen_bit choice q) (sector_at run (image + q)) (sector_at run q)
 
--- after each of the sectors from `first` up to `end` was made one with its other
-pub record Chosen (choice image first end : ℕ) (old new : List ℕ) : Type 0 where
-  pub long : length new ≡ length old
-  pub here : (q : ℕ) → first ≤ q → q < end → sector_at new q ≡ chosen_of choice image old q
-  pub there : (q : ℕ) → first ≤ q → q < end → sector_at new (image + q) ≡ chosen_of choice image old q
-  pub below : (q : ℕ) → q < first → sector_at new q ≡ sector_at old q
-  pub between : (q : ℕ) → end ≤ q → q < image + first → sector_at new q ≡ sector_at old q
-  pub above : (q : ℕ) → image + end ≤ q → Has old q → sector_at new q ≡ sector_at old q
-
--- the same, and no other byte was changed
+-- after each of the sectors from `first` up to `end` was made one with its other, and no other byte was changed
 pub record ChosenAlone (choice image first end : ℕ) (old new : List ℕ) : Type 0 where
   pub long : length new ≡ length old
   pub here : (q : ℕ) → first ≤ q → q < end → sector_at new q ≡ chosen_of choice image old q

@@ -1,9 +1,9 @@
 -- The trial shelf, by its controls and its two images.
 use Rattle.std.specs.Prelude.{◌≡◌, ℕ, ◌+◌, ◌-◌, ◌*◌, ◌<◌, ◌≤◌, Bool, true, false, cond, ◌⊎◌, List, length, get_or, drop, replicate, Ok, Err, Result, ◌==◌, nat_lt, slice_index_or, slice_set}
 use Rattle.shelf.specs.Meaning.{Meaning}
-use Rattle.shelf.specs.Runs.{Chosen, ChosenAlone, InRange, PulledAlone, RunOf, chosen_of, image_of, sector_at, sector_put}
-use Rattle.shelf.specs.declared.Answer.{Answer}
-use Rattle.shelf.specs.declared.Answer.TheVariants.{Done, Absent, Off, Refused}
+use Rattle.shelf.specs.Runs.{ChosenAlone, InRange, PulledAlone, RunOf, chosen_of, image_of, sector_at, sector_put}
+use Rattle.shelf.specs.Answers.{Answer, done}
+use Rattle.shelf.specs.declared.Failure.TheVariants.{Absent, Off, OutOfRange}
 use Rattle.shelf.specs.declared.controls.Controls.{Controls}
 use Rattle.answer.specs.declared.Refusal.{Refusal}
 use Rattle.answer.specs.declared.Refusal.TheVariants.{OutOfLimits}
@@ -22,7 +22,7 @@ struck c m = cond c.on (record { on = cond (c.fuse == 0) false true; fuse = cond
 
 -- what an operation answers, by the controls after it
 abbrev pub answer_after : Controls → ℕ → Answer
-answer_after c m = cond c.on (cond (slice_index_or c.present m false) Done Absent) Off
+answer_after c m = cond c.on (cond (slice_index_or c.present m false) done (Err Absent)) (Err Off)
 
 -- the settled image comes first, then the current one
 abbrev pub trial_meaning : (members sectors : ℕ) → List ℕ → Controls → Meaning
@@ -35,15 +35,7 @@ trial_meaning m z run c = record {
   current = image_of m z run (m * z);
 }
 
--- both images after a restart has come to member `upto`: each sector of a present member is one content, by the choice word
-pub record Brought (m z : ℕ) (c : Controls) (upto : ℕ) (old new : List ℕ) : Type 0 where
-  pub long : length new ≡ length old
-  pub settled : (k s : ℕ) → k < upto → s < z → slice_index_or c.present k false ≡ true → sector_at new (k * z + s) ≡ chosen_of c.choice (m * z) old (k * z + s)
-  pub current : (k s : ℕ) → k < upto → s < z → slice_index_or c.present k false ≡ true → sector_at new (m * z + (k * z + s)) ≡ chosen_of c.choice (m * z) old (k * z + s)
-  pub rest_settled : (k s : ℕ) → k < m → s < z → (upto ≤ k) ⊎ (slice_index_or c.present k false ≡ false) → sector_at new (k * z + s) ≡ sector_at old (k * z + s)
-  pub rest_current : (k s : ℕ) → k < m → s < z → (upto ≤ k) ⊎ (slice_index_or c.present k false ≡ false) → sector_at new (m * z + (k * z + s)) ≡ sector_at old (m * z + (k * z + s))
-
--- the same, and no other byte was changed
+-- both images after a restart has come to member `upto`: each sector of a present member is one content, by the choice word, and no other byte was changed
 pub record BroughtAlone (m z : ℕ) (c : Controls) (upto : ℕ) (old new : List ℕ) : Type 0 where
   pub long : length new ≡ length old
   pub settled : (k s : ℕ) → k < upto → s < z → slice_index_or c.present k false ≡ true → sector_at new (k * z + s) ≡ chosen_of c.choice (m * z) old (k * z + s)
@@ -53,11 +45,6 @@ pub record BroughtAlone (m z : ℕ) (c : Controls) (upto : ℕ) (old new : List 
   pub rest : (i : ℕ) → m * z * 2 * 512 ≤ i → drop i new ≡ drop i old
 
 -- what it makes of one member
-pub record BroughtOne (m z : ℕ) (c : Controls) (k : ℕ) (old new : List ℕ) : Type 0 where
-  pub there : get_or c.present k false ≡ true → Chosen c.choice (m * z) (k * z) (k * z + z) old new
-  pub gone : get_or c.present k false ≡ false → new ≡ old
-
--- the same, and no other byte was changed
 pub record BroughtOneAlone (m z : ℕ) (c : Controls) (k : ℕ) (old new : List ℕ) : Type 0 where
   pub there : get_or c.present k false ≡ true → ChosenAlone c.choice (m * z) (k * z) (k * z + z) old new
   pub gone : get_or c.present k false ≡ false → new ≡ old
@@ -76,6 +63,10 @@ pub record Trial : Type 0 where
 abbrev pub trial_of : ℕ → ℕ → List ℕ → Controls → Trial
 trial_of m z run c = record { members = m; sectors = z; run = run; controls = c }
 
+-- what it means
+abbrev pub means : Trial → Meaning
+means t = trial_meaning t.members t.sectors t.run t.controls
+
 -- after an operation on member k that left such a run
 abbrev pub struck_with : Trial → ℕ → List ℕ → Trial
 struck_with a k run = trial_of a.members a.sectors run (struck a.controls k)
@@ -90,10 +81,8 @@ current_cell a k s = a.members * a.sectors + (k * a.sectors + s)
 
 -- the buffer after a read
 abbrev pub given_by : Answer → List ℕ → List ℕ → List ℕ
-given_by Done content old = content
-given_by Absent content old = old
-given_by Off content old = old
-given_by Refused content old = old
+given_by (Ok x) content old = content
+given_by (Err e) content old = old
 
 -- a write reaches the current image of a present member, also when the fuse goes at it
 abbrev pub written_run : Trial → ℕ → ℕ → List ℕ → List ℕ
@@ -101,23 +90,21 @@ written_run a k s content = cond a.controls.on (cond (slice_index_or (struck a.c
 
 -- a done flush settles the member's sectors, and any other nothing
 abbrev pub FlushedRun : Answer → Trial → ℕ → List ℕ → Type 0
-FlushedRun Done a k new = PulledAlone (a.members * a.sectors) (k * a.sectors) (k * a.sectors + a.sectors) a.run new
-FlushedRun Absent a k new = new ≡ a.run
-FlushedRun Off a k new = new ≡ a.run
-FlushedRun Refused a k new = new ≡ a.run
+FlushedRun (Ok x) a k new = PulledAlone (a.members * a.sectors) (k * a.sectors) (k * a.sectors + a.sectors) a.run new
+FlushedRun (Err e) a k new = new ≡ a.run
 
 -- Each operation, for all arguments: what it leaves, what it answers, and what stands in the buffer.
 pub record TrialReads (k s : ℕ) (old new : List ℕ) (a b : Trial) (r : Answer) : Type 0 where
   pub inside : InRange a.members a.sectors k s (length old) → (b ≡ struck_with a k a.run) × (r ≡ answer_of a k) × (new ≡ given_by r (sector_at a.run (current_cell a k s)) old)
-  pub outside : (InRange a.members a.sectors k s (length old) → ⊥) → (b ≡ a) × (r ≡ Refused) × (new ≡ old)
+  pub outside : (InRange a.members a.sectors k s (length old) → ⊥) → (b ≡ a) × (r ≡ Err OutOfRange) × (new ≡ old)
 
 pub record TrialWrites (k s : ℕ) (content : List ℕ) (a b : Trial) (r : Answer) : Type 0 where
   pub inside : InRange a.members a.sectors k s (length content) → (b ≡ struck_with a k (written_run a k s content)) × (r ≡ answer_of a k)
-  pub outside : (InRange a.members a.sectors k s (length content) → ⊥) → (b ≡ a) × (r ≡ Refused)
+  pub outside : (InRange a.members a.sectors k s (length content) → ⊥) → (b ≡ a) × (r ≡ Err OutOfRange)
 
 pub record TrialFlushes (k : ℕ) (a b : Trial) (r : Answer) : Type 0 where
   pub inside : k < a.members → (b ≡ struck_with a k b.run) × (r ≡ answer_of a k) × FlushedRun r a k b.run
-  pub outside : (k < a.members → ⊥) → (b ≡ a) × (r ≡ Refused)
+  pub outside : (k < a.members → ⊥) → (b ≡ a) × (r ≡ Err OutOfRange)
 
 pub record TrialRestarts (a b : Trial) (r : Bool) : Type 0 where
   pub answer : r ≡ true

@@ -2,7 +2,7 @@
 ghost use Rattle.std.specs.Prelude.{◌≡◌, ◌<◌, false};
 ghost use Rattle.shelf.specs.Trials.{answer_after, struck};
 
-use crate::Answer;
+use crate::{Answer, Failure};
 
 // a fuse that never goes
 pub const NEVER: u32 = 4_294_967_295;
@@ -27,22 +27,22 @@ impl Controls {
         ensures answer { result ≡ answer_after self.new member }
     {
         if !self.on {
-            return Answer::Off;
+            return Err(Failure::Off);
         }
         if self.losing[member as usize] {
             self.present[member as usize] = false;
         }
         if self.fuse == 0 {
             self.on = false;
-            return Answer::Off;
+            return Err(Failure::Off);
         }
         if self.fuse < NEVER {
             self.fuse -= 1;
         }
         if self.present[member as usize] {
-            Answer::Done
+            Ok(())
         } else {
-            Answer::Absent
+            Err(Failure::Absent)
         }
     }
 }

@@ -2,10 +2,11 @@
 ghost use Rattle.shelf.specs.Shown.{Shown};
 
 use crate::Shelf;
+use sector::Sector;
 
 // A shelf whose current contents can be looked at: no power is needed, and nothing can happen.
 pub trait Image: Shelf {
-    // Copies a sector's current content into the buffer; false, and the buffer as it was, where the member, the sector or the buffer's length is out of range.
-    fn current(&self, member: u64, sector: u64, buffer: &mut [u8]) -> bool
-        ensures { Shown member sector buffer.old buffer.new (Self.Shelf.meaning self.now) result };
+    // A sector's current content; None where the member or the sector is out of range.
+    fn current(&self, member: u64, sector: u64) -> Option<Sector>
+        ensures { Shown member sector (Self.Shelf.meaning self.now) result };
 }

@@ -6,7 +6,9 @@ ghost use Rattle.shelf.specs.Meaning.{Flushed, Meaning, Reads, Restarts, Writes}
 ghost use Rattle.shelf.specs.Relation.{Allows, Keeps, Repeats};
 
 mod controls;
+mod extent;
 pub mod image;
+mod images;
 pub mod plain;
 mod run;
 pub mod trial;
@@ -17,18 +19,19 @@ pub const MOST_MEMBERS: u64 = 16;
 
 pub const MOST_SECTORS: u64 = 33_554_432;
 
-// What an operation tells of the shelf afterwards.
+// Why an operation was not done: what it tells of the shelf afterwards.
 #[derive(Clone, Copy, PartialEq, Eq, Debug)]
-pub enum Answer {
-    // on, the member is there, and the operation was carried out
-    Done,
+pub enum Failure {
     // on, and the member is gone for good
     Absent,
     // off until a restart
     Off,
     // the member, the sector or the buffer's length is out of range: nothing happened
-    Refused,
+    OutOfRange,
 }
+
+// An operation that is done leaves the shelf on and has found the member there.
+pub type Answer = Result<(), Failure>;
 
 // A shelf. What is written is current at once and settled by a flush at the latest; a restart brings out one of the two for each sector.
 pub trait Shelf {

@@ -1,23 +1,31 @@
 // The plain shelf: a run of bytes that settles each write, stays on and loses no member.
-ghost use Rattle.std.specs.Prelude.{◌≡◌, ◌*◌, ◌<◌, ◌≤◌, vec_len};
-ghost use Rattle.shelf.specs.Meaning.{Flushed, Reads, Restarts, Writes, plain_meaning};
-ghost use Rattle.shelf.specs.Plains.{PlainFlushes, PlainMade, PlainReads, PlainRestarts, PlainWrites, Steady, plain_of};
+ghost use Rattle.std.specs.Prelude.{◌≡◌, ◌*◌, ◌≤◌, length};
+ghost use Rattle.shelf.specs.Meaning.{Flushed, Reads, Restarts, Writes};
+ghost use Rattle.shelf.specs.Plains.{PlainFlushes, PlainMade, PlainReads, PlainRestarts, PlainWrites, Steady, plain_means};
 ghost use Rattle.shelf.specs.Runs.{FitsRun};
 ghost use Rattle.std.proofs.Common.{rules, arith};
 
+use crate::extent::Extent;
 use crate::image::Image;
-use crate::{Answer, Shelf, run};
+use crate::images::Images;
+use crate::{Answer, Failure, Shelf};
 use answer::Refusal;
+use sector::{SECTOR, Sector, zeros};
+use std::marker::Model;
 
-// The sectors of member 0 come first, then those of member 1, and so on.
+// One image of its sectors.
 #[derive(Drop)]
 pub struct PlainShelf {
-    members: u64,
-    sectors: u64,
-    bytes: Vec<u8>,
-    ghost few: { members ≤ 16 },
-    ghost short: { sectors ≤ 33554432 },
-    ghost held: { members * sectors * 512 ≤ vec_len bytes },
+    images: Images<1>,
+}
+
+// Clauses see the members, the sectors of each, and the run of bytes.
+impl Model for PlainShelf {
+    ghost use Rattle.shelf.specs.Plains.{Plain, plain_of};
+
+    ghost Value = { Plain };
+
+    ghost view = { λ s. plain_of s.images.extent.members s.images.extent.sectors s.images.bytes.items };
 }
 
 impl PlainShelf {
@@ -25,51 +33,46 @@ impl PlainShelf {
     pub fn fits(members: u64, sectors: u64, bytes: usize) -> Result<(), Refusal>
         ensures { FitsRun members sectors 1 bytes result }
     {
-        run::fits(members, sectors, 1, bytes)
+        Extent::of(members, sectors, 1, bytes)?;
+        Ok(())
     }
 
     // A shelf over a run of bytes; where they do not fit, one of 2 members without sectors.
     pub fn new(members: u64, sectors: u64, bytes: Vec<u8>) -> PlainShelf
-        ensures { PlainMade members sectors bytes.items (plain_of result.members result.sectors result.bytes.items) }
+        ensures { PlainMade members sectors bytes.items result }
     {
-        match run::fits(members, sectors, 1, bytes.len()) {
-            Ok(()) => PlainShelf {
-                members,
-                sectors,
-                bytes,
-            },
-            Err(_) => PlainShelf {
-                members: 2,
-                sectors: 0,
-                bytes,
-            },
+        PlainShelf {
+            images: Images::over(members, sectors, bytes),
         }
     }
 
     // The run of bytes, as the shelf left it.
     pub fn into_bytes(self) -> Vec<u8>
-        ensures { result ≡ self.bytes }
+        ensures bytes { result.items ≡ self.run }
+        ensures held { self.members * self.sectors * 512 ≤ length result.items }
     {
-        let PlainShelf {
-            members: _,
-            sectors: _,
-            bytes,
-        } = self;
-        bytes
+        let PlainShelf { images } = self;
+        images.into_bytes()
     }
 }
 
 impl Shelf for PlainShelf {
-    ghost meaning = { λ p. plain_meaning p.members p.sectors p.bytes.items };
+    ghost meaning = { plain_means };
 
     ghost inside = { first_of (Prim.search rules, Prim.grind (arith, Self.row.coded.inj)) };
 
-    fn members(&self) -> u64 {
-        self.members
+    fn members(&self) -> u64
+        ensures members { result ≡ self.now.members }
+        ensures few { result ≤ 16 }
+    {
+        self.images.extent.members
     }
 
-    fn sectors(&self) -> u64 {
-        self.sectors
+    fn sectors(&self) -> u64
+        ensures sectors { result ≡ self.now.sectors }
+        ensures short { result ≤ 33554432 }
+    {
+        self.images.extent.sectors
     }
 
     fn is_on(&self) -> bool {
@@ -77,61 +80,58 @@ impl Shelf for PlainShelf {
     }
 
     fn is_present(&self, member: u64) -> bool {
-        member < self.members
+        member < self.images.extent.members
     }
 
     fn read(&mut self, member: u64, sector: u64, buffer: &mut [u8]) -> Answer
-        ensures reads { let a = self.old in let b = self.new in Reads member sector buffer.old buffer.new (plain_meaning a.members a.sectors a.bytes.items) (plain_meaning b.members b.sectors b.bytes.items) result }
-        ensures exact { let a = self.old in let b = self.new in PlainReads member sector buffer.old buffer.new (plain_of a.members a.sectors a.bytes.items) (plain_of b.members b.sectors b.bytes.items) result }
-        ensures steady { let a = self.old in let b = self.new in Steady (plain_meaning a.members a.sectors a.bytes.items) (plain_meaning b.members b.sectors b.bytes.items) }
+        ensures reads { Reads member sector buffer.old buffer.new (plain_means self.old) (plain_means self.new) result }
+        ensures exact { PlainReads member sector buffer.old buffer.new self.old self.new result }
+        ensures steady { Steady (plain_means self.old) (plain_means self.new) }
     {
-        let Some(at) = run::cell(self.members, self.sectors, member, sector, buffer.len()) else {
-            return Answer::Refused;
-        };
-        run::load(&self.bytes, at, buffer);
-        Answer::Done
+        let at = self.images.cell(member, sector, buffer.len())?;
+        self.images.load(at, buffer);
+        Ok(())
     }
 
     fn write(&mut self, member: u64, sector: u64, buffer: &[u8]) -> Answer
-        ensures writes { let a = self.old in let b = self.new in Writes member sector buffer.now (plain_meaning a.members a.sectors a.bytes.items) (plain_meaning b.members b.sectors b.bytes.items) result }
-        ensures exact { let a = self.old in let b = self.new in PlainWrites member sector buffer.now (plain_of a.members a.sectors a.bytes.items) (plain_of b.members b.sectors b.bytes.items) result }
-        ensures steady { let a = self.old in let b = self.new in Steady (plain_meaning a.members a.sectors a.bytes.items) (plain_meaning b.members b.sectors b.bytes.items) }
+        ensures writes { Writes member sector buffer.now (plain_means self.old) (plain_means self.new) result }
+        ensures exact { PlainWrites member sector buffer.now self.old self.new result }
+        ensures steady { Steady (plain_means self.old) (plain_means self.new) }
     {
-        let Some(at) = run::cell(self.members, self.sectors, member, sector, buffer.len()) else {
-            return Answer::Refused;
-        };
-        run::put(&mut self.bytes, at, buffer);
-        Answer::Done
+        let at = self.images.cell(member, sector, buffer.len())?;
+        self.images.store(at, buffer);
+        Ok(())
     }
 
     fn flush(&mut self, member: u64) -> Answer
-        ensures flushed { let a = self.old in let b = self.new in Flushed member (plain_meaning a.members a.sectors a.bytes.items) (plain_meaning b.members b.sectors b.bytes.items) result }
-        ensures exact { let a = self.old in let b = self.new in PlainFlushes member (plain_of a.members a.sectors a.bytes.items) (plain_of b.members b.sectors b.bytes.items) result }
-        ensures steady { let a = self.old in let b = self.new in Steady (plain_meaning a.members a.sectors a.bytes.items) (plain_meaning b.members b.sectors b.bytes.items) }
+        ensures flushed { Flushed member (plain_means self.old) (plain_means self.new) result }
+        ensures exact { PlainFlushes member self.old self.new result }
+        ensures steady { Steady (plain_means self.old) (plain_means self.new) }
     {
-        if member < self.members {
-            Answer::Done
+        if member < self.images.extent.members {
+            Ok(())
         } else {
-            Answer::Refused
+            Err(Failure::OutOfRange)
         }
     }
 
     // Nothing was lost, so there is nothing to bring out.
     fn restart(&mut self) -> bool
-        ensures restarts { let a = self.old in let b = self.new in Restarts (plain_meaning a.members a.sectors a.bytes.items) (plain_meaning b.members b.sectors b.bytes.items) result }
-        ensures exact { let a = self.old in let b = self.new in PlainRestarts (plain_of a.members a.sectors a.bytes.items) (plain_of b.members b.sectors b.bytes.items) result }
-        ensures steady { let a = self.old in let b = self.new in Steady (plain_meaning a.members a.sectors a.bytes.items) (plain_meaning b.members b.sectors b.bytes.items) }
+        ensures restarts { Restarts (plain_means self.old) (plain_means self.new) result }
+        ensures exact { PlainRestarts self.old self.new result }
+        ensures steady { Steady (plain_means self.old) (plain_means self.new) }
     {
         self.is_on()
     }
 }
 
 impl Image for PlainShelf {
-    fn current(&self, member: u64, sector: u64, buffer: &mut [u8]) -> bool {
-        let Some(cell) = run::cell(self.members, self.sectors, member, sector, buffer.len()) else {
-            return false;
+    fn current(&self, member: u64, sector: u64) -> Option<Sector> {
+        let Ok(cell) = self.images.cell(member, sector, SECTOR) else {
+            return None;
         };
-        run::load(&self.bytes, cell, buffer);
-        true
+        let mut content = zeros();
+        self.images.load(cell, &mut content);
+        Some(content)
     }
 }

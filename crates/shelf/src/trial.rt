@@ -1,27 +1,35 @@
 // The trial shelf: keeps what is settled apart from what is current, and loses power and members where it is told to.
-ghost use Rattle.std.specs.Prelude.{◌≡◌, ◌+◌, ◌*◌, ◌<◌, ◌≤◌, length, vec_len};
+ghost use Rattle.std.specs.Prelude.{◌≡◌, ◌*◌, ◌≤◌, length};
 ghost use Rattle.shelf.specs.Fuses.{ControlsStand};
 ghost use Rattle.shelf.specs.Meaning.{Flushed, Reads, Restarts, Writes};
-ghost use Rattle.shelf.specs.Runs.{FitsRun, PulledAlone};
-ghost use Rattle.shelf.specs.Trials.{Brought, BroughtAlone, BroughtOne, BroughtOneAlone, Loses, TrialFlushes, TrialMade, TrialReads, TrialRestarts, TrialWrites, controlled, trial_meaning, trial_of, with_choice, with_fuse};
+ghost use Rattle.shelf.specs.Runs.{FitsRun};
+ghost use Rattle.shelf.specs.Trials.{Loses, TrialFlushes, TrialMade, TrialReads, TrialRestarts, TrialWrites, controlled, means, with_choice, with_fuse};
 ghost use Rattle.std.proofs.Common.{rules, arith};
 
 use crate::controls::Controls;
 pub use crate::controls::NEVER;
+use crate::extent::Extent;
 use crate::image::Image;
-use crate::{Answer, Shelf, run};
+use crate::images::Images;
+use crate::{Answer, Failure, Shelf};
 use answer::Refusal;
+use sector::{SECTOR, Sector, zeros};
+use std::marker::Model;
 
-// The settled image comes first, then the current one, each with the sectors of member 0 first, then those of member 1, and so on.
+// The settled image and the current one, and what is to happen to them.
 #[derive(Drop)]
 pub struct TrialShelf {
-    members: u64,
-    sectors: u64,
-    bytes: Vec<u8>,
+    images: Images<2>,
     controls: Controls,
-    ghost few: { members ≤ 16 },
-    ghost short: { sectors ≤ 33554432 },
-    ghost held: { members * sectors * 2 * 512 ≤ vec_len bytes },
+}
+
+// Clauses see the members, the sectors of each, the run of bytes with both images, and the controls.
+impl Model for TrialShelf {
+    ghost use Rattle.shelf.specs.Trials.{Trial, trial_of};
+
+    ghost Value = { Trial };
+
+    ghost view = { λ t. trial_of t.images.extent.members t.images.extent.sectors t.images.bytes.items t.controls };
 }
 
 impl TrialShelf {
@@ -29,71 +37,60 @@ impl TrialShelf {
     pub fn fits(members: u64, sectors: u64, bytes: usize) -> Result<(), Refusal>
         ensures { FitsRun members sectors 2 bytes result }
     {
-        run::fits(members, sectors, 2, bytes)
+        Extent::of(members, sectors, 2, bytes)?;
+        Ok(())
     }
 
     // A shelf over a run of bytes, both images in it; where they do not fit, one of 2 members without sectors.
     pub fn new(members: u64, sectors: u64, bytes: Vec<u8>) -> TrialShelf
-        ensures { TrialMade members sectors bytes.items (trial_of result.members result.sectors result.bytes.items result.controls) }
+        ensures { TrialMade members sectors bytes.items result }
     {
-        let controls = Controls {
-            on: true,
-            fuse: NEVER,
-            choice: 0,
-            present: [true; 16],
-            losing: [false; 16],
-        };
-        match run::fits(members, sectors, 2, bytes.len()) {
-            Ok(()) => TrialShelf {
-                members,
-                sectors,
-                bytes,
-                controls,
-            },
-            Err(_) => TrialShelf {
-                members: 2,
-                sectors: 0,
-                bytes,
-                controls,
+        TrialShelf {
+            images: Images::over(members, sectors, bytes),
+            controls: Controls {
+                on: true,
+                fuse: NEVER,
+                choice: 0,
+                present: [true; 16],
+                losing: [false; 16],
             },
         }
     }
 
     // The run of bytes, both images, as the shelf left it.
     pub fn into_bytes(self) -> Vec<u8>
-        ensures { result ≡ self.bytes }
+        ensures bytes { result.items ≡ self.run }
+        ensures held { self.members * self.sectors * 2 * 512 ≤ length result.items }
     {
         let TrialShelf {
-            members: _,
-            sectors: _,
-            bytes,
+            images,
             controls: _,
         } = self;
-        bytes
+        images.into_bytes()
     }
 
     // Lets the power go after so many operations more.
     pub fn set_fuse(&mut self, fuse: u32)
-        ensures state { let a = self.old in let b = self.new in trial_of b.members b.sectors b.bytes.items b.controls ≡ controlled (trial_of a.members a.sectors a.bytes.items a.controls) (with_fuse a.controls fuse) }
-        ensures meaning { let a = self.old in let b = self.new in trial_meaning b.members b.sectors b.bytes.items b.controls ≡ trial_meaning a.members a.sectors a.bytes.items a.controls }
+        ensures state { self.new ≡ controlled self.old (with_fuse self.old.controls fuse) }
+        ensures meaning { means self.new ≡ means self.old }
     {
         self.controls.fuse = fuse;
     }
 
     // Has a restart take what is current where the word has a 1, by a sector's place modulo 32.
     pub fn set_choice(&mut self, choice: u32)
-        ensures state { let a = self.old in let b = self.new in trial_of b.members b.sectors b.bytes.items b.controls ≡ controlled (trial_of a.members a.sectors a.bytes.items a.controls) (with_choice a.controls choice) }
-        ensures meaning { let a = self.old in let b = self.new in trial_meaning b.members b.sectors b.bytes.items b.controls ≡ trial_meaning a.members a.sectors a.bytes.items a.controls }
+        ensures state { self.new ≡ controlled self.old (with_choice self.old.controls choice) }
+        ensures meaning { means self.new ≡ means self.old }
     {
         self.controls.choice = choice;
     }
 
     // Has the member be found absent at its next operation.
     pub fn lose(&mut self, member: u64) -> Result<(), Refusal>
-        ensures state { let a = self.old in let b = self.new in Loses member (trial_of a.members a.sectors a.bytes.items a.controls) (trial_of b.members b.sectors b.bytes.items b.controls) result }
-        ensures meaning { let a = self.old in let b = self.new in trial_meaning b.members b.sectors b.bytes.items b.controls ≡ trial_meaning a.members a.sectors a.bytes.items a.controls }
+        ensures state { Loses member self.old self.new result }
+        ensures meaning { means self.new ≡ means self.old }
     {
-        if member >= self.members {
+        if member >= self.images.extent.members {
             return Err(Refusal::OutOfLimits);
         }
         self.controls.losing[member as usize] = true;
@@ -111,26 +108,25 @@ impl TrialShelf {
     {
         self.controls.choice
     }
-
-    // The sectors of one image.
-    fn image(&self) -> usize
-        ensures { result ≡ self.now.members * self.now.sectors }
-    {
-        (self.members * self.sectors) as usize
-    }
 }
 
 impl Shelf for TrialShelf {
-    ghost meaning = { λ t. trial_meaning t.members t.sectors t.bytes.items t.controls };
+    ghost meaning = { means };
 
     ghost inside = { first_of (Prim.search rules, Prim.grind (arith, Self.row.coded.inj)) };
 
-    fn members(&self) -> u64 {
-        self.members
+    fn members(&self) -> u64
+        ensures members { result ≡ self.now.members }
+        ensures few { result ≤ 16 }
+    {
+        self.images.extent.members
     }
 
-    fn sectors(&self) -> u64 {
-        self.sectors
+    fn sectors(&self) -> u64
+        ensures sectors { result ≡ self.now.sectors }
+        ensures short { result ≤ 33554432 }
+    {
+        self.images.extent.sectors
     }
 
     fn is_on(&self) -> bool {
@@ -138,63 +134,51 @@ impl Shelf for TrialShelf {
     }
 
     fn is_present(&self, member: u64) -> bool {
-        member < self.members && self.controls.present[member as usize]
+        member < self.images.extent.members && self.controls.present[member as usize]
     }
 
     fn read(&mut self, member: u64, sector: u64, buffer: &mut [u8]) -> Answer
-        ensures reads { let a = self.old in let b = self.new in Reads member sector buffer.old buffer.new (trial_meaning a.members a.sectors a.bytes.items a.controls) (trial_meaning b.members b.sectors b.bytes.items b.controls) result }
-        ensures exact { let a = self.old in let b = self.new in TrialReads member sector buffer.old buffer.new (trial_of a.members a.sectors a.bytes.items a.controls) (trial_of b.members b.sectors b.bytes.items b.controls) result }
+        ensures reads { Reads member sector buffer.old buffer.new (means self.old) (means self.new) result }
+        ensures exact { TrialReads member sector buffer.old buffer.new self.old self.new result }
     {
-        let Some(at) = run::cell(self.members, self.sectors, member, sector, buffer.len()) else {
-            return Answer::Refused;
-        };
-        match self.controls.strike(member) {
-            Answer::Done => {
-                run::load(&self.bytes, self.image() + at, buffer);
-                Answer::Done
-            }
-            other => other,
-        }
+        let at = self.images.cell(member, sector, buffer.len())?;
+        self.controls.strike(member)?;
+        self.images.load(self.images.extent.image() + at, buffer);
+        Ok(())
     }
 
     // At the end of the fuse the write still reaches the current image.
     fn write(&mut self, member: u64, sector: u64, buffer: &[u8]) -> Answer
-        ensures writes { let a = self.old in let b = self.new in Writes member sector buffer.now (trial_meaning a.members a.sectors a.bytes.items a.controls) (trial_meaning b.members b.sectors b.bytes.items b.controls) result }
-        ensures exact { let a = self.old in let b = self.new in TrialWrites member sector buffer.now (trial_of a.members a.sectors a.bytes.items a.controls) (trial_of b.members b.sectors b.bytes.items b.controls) result }
+        ensures writes { Writes member sector buffer.now (means self.old) (means self.new) result }
+        ensures exact { TrialWrites member sector buffer.now self.old self.new result }
     {
-        let Some(at) = run::cell(self.members, self.sectors, member, sector, buffer.len()) else {
-            return Answer::Refused;
-        };
+        let at = self.images.cell(member, sector, buffer.len())?;
         let was_on = self.controls.on;
         let answer = self.controls.strike(member);
         if was_on && self.controls.present[member as usize] {
-            let image = self.image();
-            run::put(&mut self.bytes, image + at, buffer);
+            let image = self.images.extent.image();
+            self.images.store(image + at, buffer);
         }
         answer
     }
 
     fn flush(&mut self, member: u64) -> Answer
-        ensures flushed { let a = self.old in let b = self.new in Flushed member (trial_meaning a.members a.sectors a.bytes.items a.controls) (trial_meaning b.members b.sectors b.bytes.items b.controls) result }
-        ensures exact { let a = self.old in let b = self.new in TrialFlushes member (trial_of a.members a.sectors a.bytes.items a.controls) (trial_of b.members b.sectors b.bytes.items b.controls) result }
+        ensures flushed { Flushed member (means self.old) (means self.new) result }
+        ensures exact { TrialFlushes member self.old self.new result }
     {
-        if member >= self.members {
-            return Answer::Refused;
+        if member >= self.images.extent.members {
+            return Err(Failure::OutOfRange);
         }
-        match self.controls.strike(member) {
-            Answer::Done => {
-                settle(&mut self.bytes, self.members, self.sectors, member);
-                Answer::Done
-            }
-            other => other,
-        }
+        self.controls.strike(member)?;
+        self.images.settle(member);
+        Ok(())
     }
 
     fn restart(&mut self) -> bool
-        ensures restarts { let a = self.old in let b = self.new in Restarts (trial_meaning a.members a.sectors a.bytes.items a.controls) (trial_meaning b.members b.sectors b.bytes.items b.controls) result }
-        ensures exact { let a = self.old in let b = self.new in TrialRestarts (trial_of a.members a.sectors a.bytes.items a.controls) (trial_of b.members b.sectors b.bytes.items b.controls) result }
+        ensures restarts { Restarts (means self.old) (means self.new) result }
+        ensures exact { TrialRestarts self.old self.new result }
     {
-        bring_back(&mut self.bytes, &self.controls, self.members, self.sectors);
+        self.images.bring_out(&self.controls);
         self.controls.fuse = NEVER;
         self.controls.on = true;
         true
@@ -202,12 +186,14 @@ impl Shelf for TrialShelf {
 }
 
 impl Image for TrialShelf {
-    fn current(&self, member: u64, sector: u64, buffer: &mut [u8]) -> bool {
-        let Some(cell) = run::cell(self.members, self.sectors, member, sector, buffer.len()) else {
-            return false;
+    fn current(&self, member: u64, sector: u64) -> Option<Sector> {
+        let Ok(cell) = self.images.cell(member, sector, SECTOR) else {
+            return None;
         };
-        run::load(&self.bytes, self.image() + cell, buffer);
-        true
+        let mut content = zeros();
+        self.images
+            .load(self.images.extent.image() + cell, &mut content);
+        Some(content)
     }
 }
 
@@ -215,73 +201,3 @@ impl Image for TrialShelf {
 pub fn controls_stand()
     ensures { ControlsStand }
 {}
-
-// Copies the current content of a member's sectors to the settled image, in the run that the shelf owns.
-fn settle(bytes: &mut Vec<u8>, members: u64, sectors: u64, member: u64)
-    requires few { members ≤ 16 }
-    requires short { sectors ≤ 33554432 }
-    requires held { members * sectors * 2 * 512 ≤ vec_len bytes.old }
-    requires inside { member < members }
-    ensures size { vec_len bytes.new ≡ vec_len bytes.old }
-    ensures content { PulledAlone (members * sectors) (member * sectors) (member * sectors + sectors) bytes.old.items bytes.new.items }
-{
-    pull_member(bytes, members, sectors, member);
-}
-
-// The same in a slice.
-fn pull_member(images: &mut [u8], members: u64, sectors: u64, member: u64)
-    requires few { members ≤ 16 }
-    requires short { sectors ≤ 33554432 }
-    requires held { members * sectors * 2 * 512 ≤ length images.old }
-    requires inside { member < members }
-    ensures { PulledAlone (members * sectors) (member * sectors) (member * sectors + sectors) images.old images.new }
-{
-    let image = (members * sectors) as usize;
-    let first = (member * sectors) as usize;
-    run::pull(images, image, first, first + sectors as usize);
-}
-
-// Makes one content of the two of each sector of the present members, in the run that the shelf owns.
-fn bring_back(bytes: &mut Vec<u8>, controls: &Controls, members: u64, sectors: u64)
-    requires few { members ≤ 16 }
-    requires short { sectors ≤ 33554432 }
-    requires held { members * sectors * 2 * 512 ≤ vec_len bytes.old }
-    ensures size { vec_len bytes.new ≡ vec_len bytes.old }
-    ensures content { BroughtAlone members sectors controls.now members bytes.old.items bytes.new.items }
-{
-    bring_out(bytes, controls, members, sectors);
-}
-
-// The same in a slice.
-fn bring_out(images: &mut [u8], controls: &Controls, members: u64, sectors: u64)
-    requires few { members ≤ 16 }
-    requires short { sectors ≤ 33554432 }
-    requires held { members * sectors * 2 * 512 ≤ length images.old }
-    ensures brought { Brought members sectors controls.now members images.old images.new }
-    ensures alone { BroughtAlone members sectors controls.now members images.old images.new }
-{
-    for member in 0..members {
-        bring_out_member(images, controls, members, sectors, member);
-    }
-}
-
-fn bring_out_member(images: &mut [u8], controls: &Controls, members: u64, sectors: u64, member: u64)
-    requires few { members ≤ 16 }
-    requires short { sectors ≤ 33554432 }
-    requires held { members * sectors * 2 * 512 ≤ length images.old }
-    requires inside { member < members }
-    ensures brought { BroughtOne members sectors controls.now member images.old images.new }
-    ensures alone { BroughtOneAlone members sectors controls.now member images.old images.new }
-{
-    if controls.present[member as usize] {
-        let image = (members * sectors) as usize;
-        let first = (member * sectors) as usize;
-        run::choose(
-            images,
-            controls.choice,
-            image,
-            first,
-            first + sectors as usize,
-        );
-    }
-}

@@ -5,5 +5,5 @@ use Rattle.shelf.proofs.trial.TrialShelfShelf.restart.Goals as goal
 
 pub returns-clause-restarts : goal.returns-clause-restarts
 returns-clause-restarts c =
-    let before = c.args.self.now in
-    restarts (trial_of before.members before.sectors (vec_items before.bytes) before.controls) (trial_of before.members before.sectors (vec_items c.bring_back.new.bytes) (restarted before.controls)) true (search rules)
+    let images = c.bring_out.new.self in
+    restarts c.args.self.now (trial_of images.extent.members images.extent.sectors (vec_items images.bytes) (restarted c.self.inside.controls)) true (search rules)

@@ -5,5 +5,5 @@ use Rattle.shelf.proofs.trial.TrialShelfShelf.write.Goals as goal
 
 pub returns-then-self-member-clause-writes : goal.returns-then-self-member-clause-writes
 returns-then-self-member-clause-writes c =
-    let before = c.args.self.now in
-    trial_writes c.args.member c.args.sector c.args.buffer.now (trial_of before.members before.sectors (vec_items before.bytes) before.controls) (trial_of before.members before.sectors (vec_items c.put.new.run) c.strike-answer.new.self) c.strike-answer.result (omega arith) (search rules)
+    let images = c.store.new.self in
+    trial_writes c.args.member c.args.sector c.args.buffer.now c.args.self.now (trial_of images.extent.members images.extent.sectors (vec_items images.bytes) c.strike-answer.new.self) c.strike-answer.result (rw (← c.self.view_is) (omega (arith, c.self.inside.images.held))) (search rules)
