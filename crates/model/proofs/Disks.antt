@@ -1,7 +1,6 @@
 -- Flat disks.
-use Rattle.std.proofs.Common.{◌≡◌, ℕ, ◌+◌, List, [], ◌∷◌, ◌++◌, length, get_or, replicate, None, sym, refl, ap, ◌∙◌}
+use Rattle.std.proofs.Common.{◌≡◌, ℕ, List, [], length, get_or, replicate, None, Ok, Err, Result, IfOk, Vec, vec_items, refl, ap, ◌∙◌}
 use lib.ListN.{length-replicate, get_or-replicate}
-use Rattle.std.proofs.lemmas.List.{replicate_more}
 use Rattle.stage.specs.declared.phase.Phase.TheVariants.{Before}
 use Rattle.model.specs.Disks.{SameDisk, created, disk_of}
 
@@ -15,7 +14,8 @@ created_is items n e = record {
   hand = refl;
 }
 
--- one sector more
-pub blank_more : (xs ys : List (List ℕ)) (x z : List ℕ) (n m : ℕ) → xs ≡ replicate n z → x ≡ z → ys ≡ xs ++ x ∷ [] → m ≡ n + 1 → ys ≡ replicate m z
-blank_more xs ys x z n m e f g h =
-    g ∙ (ap (λ l. l ++ x ∷ []) e ∙ (ap (λ y. replicate n z ++ y ∷ []) f ∙ (replicate_more n z ∙ ap (λ (k : ℕ). replicate k z) (sym h))))
+-- so many clones of a sector of zeros
+pub all_blank : {C : List ℕ → Type 0} {A E : Type 0} (r : Result (Vec (List ℕ) A) E) (n : ℕ) (z : List ℕ) → z ≡ replicate 512 0 → ((y : List ℕ) → C y → y ≡ z)
+    → IfOk r (λ v. ((y : List ℕ) → C y → y ≡ z) → vec_items v ≡ replicate n z) → IfOk r (λ v. vec_items v ≡ replicate n (replicate 512 0))
+all_blank (Ok v) n z e same h = h same ∙ ap (replicate n) e
+all_blank (Err u) n z e same h = h

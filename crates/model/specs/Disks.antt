@@ -1,7 +1,8 @@
 -- The flat disk: what a volume shows, and what each call makes of it.
-use Rattle.std.specs.Prelude.{◌≡◌, ℕ, ◌+◌, ◌<◌, cond, List, [], ◌∷◌, ◌++◌, length, replicate, Some, None, Option, ◌==◌, nat_lt, slice_index_or}
+use Rattle.std.specs.Prelude.{◌≡◌, ℕ, ◌+◌, ◌<◌, cond, List, [], ◌∷◌, ◌++◌, length, replicate, Some, None, Option, ◌==◌, nat_lt, slice_index_or, vec_items}
 use Rattle.stage.specs.declared.phase.Phase.{Phase}
 use Rattle.stage.specs.declared.phase.Phase.TheVariants.{Before, Moving, After, Shut}
+use Rattle.model.specs.declared.disk.Disk.{Disk as Held}
 use Rattle.model.specs.declared.request.Request.{Request}
 use Rattle.model.specs.declared.request.Request.TheVariants.{Read, Write, Begin, Keep, Copy, Settle, HandBack, Finish, Open}
 use Rattle.model.specs.declared.request.Answered.{Answered}
@@ -20,6 +21,10 @@ pub record Disk : Type 0 where
 -- the disk of these sectors
 abbrev pub disk_of : List (List ℕ) → Phase → (p q : ℕ) → Option ℕ → Disk
 disk_of sectors phase p q hand = record { size = length sectors; content = λ i. slice_index_or sectors i []; phase = phase; settled = p; kept = q; hand = hand }
+
+-- what a disk that a program holds shows
+abbrev pub shown : Held → Disk
+shown d = disk_of (vec_items d.sectors) d.phase d.settled d.kept d.hand
 
 -- the disk's sectors, and zeros from its size on
 abbrev pub padded : Disk → ℕ → List ℕ

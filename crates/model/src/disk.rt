@@ -1,6 +1,6 @@
 // The flat disk: what a volume is to show, kept apart from any shelf.
 ghost use Rattle.std.specs.Prelude.{◌≡◌, ◌+◌, ◌^◌, ◌<◌, replicate, IfOk, vec_len};
-ghost use Rattle.model.specs.Disks.{SameDisk, created, disk_of, granted, opened, padded, refused, released, with_walk, written};
+ghost use Rattle.model.specs.Disks.{SameDisk, created, shown, granted, opened, padded, refused, released, with_walk, written};
 
 use crate::request::Request;
 use sector::{Sector, zeros};
@@ -20,7 +20,7 @@ pub struct Disk {
 impl Disk {
     // The disk of a volume that was just created.
     pub fn created(heap: Global, size: usize) -> Result<Disk, AllocError>
-        ensures { IfOk result (λ d. SameDisk (created size) (disk_of d.sectors.items d.phase d.settled d.kept d.hand)) }
+        ensures { IfOk result (λ d. SameDisk (created size) (shown d)) }
     {
         let sectors = blank(heap, size)?;
         Ok(Disk {
@@ -40,7 +40,7 @@ impl Disk {
 
     // What a sector is to show, and zeros from the size on.
     pub fn sector(&self, index: u64) -> Sector
-        ensures { let a = self.now in result ≡ padded (disk_of a.sectors.items a.phase a.settled a.kept a.hand) index }
+        ensures { result ≡ padded (shown self.now) index }
     {
         if index < self.size() {
             self.sectors[index as usize]
@@ -76,9 +76,9 @@ impl Disk {
         self.hand
     }
 
-    // The same disk once more.
+    // The same disk once more. A derived clone could not be told which heap to take.
     pub fn copied(&self, heap: Global) -> Result<Disk, AllocError>
-        ensures { let a = self.now in IfOk result (λ b. SameDisk (disk_of a.sectors.items a.phase a.settled a.kept a.hand) (disk_of b.sectors.items b.phase b.settled b.kept b.hand)) }
+        ensures { IfOk result (λ d. SameDisk (shown self.now) (shown d)) }
     {
         let sectors = Vec::from_slice(heap, &self.sectors)?;
         Ok(Disk {
@@ -92,7 +92,7 @@ impl Disk {
 
     // What a granted call makes of the disk.
     pub fn grant(&mut self, request: &Request)
-        ensures { let a = self.old in let b = self.new in (a.settled + 1 < 2 ^ 64 → a.kept + 1 < 2 ^ 64 → SameDisk (granted request.now (disk_of a.sectors.items a.phase a.settled a.kept a.hand)) (disk_of b.sectors.items b.phase b.settled b.kept b.hand)) }
+        ensures { self.old.settled + 1 < 2 ^ 64 → self.old.kept + 1 < 2 ^ 64 → SameDisk (granted request.now (shown self.old)) (shown self.new) }
     {
         match *request {
             Request::Read(_) => {}
@@ -119,7 +119,7 @@ impl Disk {
 
     // What a refused call makes of it: a grant of the row in hand is spent all the same.
     pub fn refuse(&mut self, request: &Request)
-        ensures { let a = self.old in let b = self.new in SameDisk (refused request.now (disk_of a.sectors.items a.phase a.settled a.kept a.hand)) (disk_of b.sectors.items b.phase b.settled b.kept b.hand) }
+        ensures { SameDisk (refused request.now (shown self.old)) (shown self.new) }
     {
         match *request {
             Request::Settle(row) | Request::HandBack(row) => self.release(row),
@@ -128,7 +128,7 @@ impl Disk {
     }
 
     fn release(&mut self, row: u64)
-        ensures { let a = self.old in let b = self.new in SameDisk (released row (disk_of a.sectors.items a.phase a.settled a.kept a.hand)) (disk_of b.sectors.items b.phase b.settled b.kept b.hand) }
+        ensures { SameDisk (released row (shown self.old)) (shown self.new) }
     {
         if let Some(held) = self.hand {
             if held == row {
@@ -138,7 +138,7 @@ impl Disk {
     }
 
     fn put(&mut self, index: u64, content: Sector)
-        ensures { let a = self.old in let b = self.new in SameDisk (written index content (disk_of a.sectors.items a.phase a.settled a.kept a.hand)) (disk_of b.sectors.items b.phase b.settled b.kept b.hand) }
+        ensures { SameDisk (written index content (shown self.old)) (shown self.new) }
     {
         if index < self.size() {
             self.sectors[index as usize] = content;
@@ -146,7 +146,7 @@ impl Disk {
     }
 
     fn walk(&mut self, phase: Phase, settled: u64, kept: u64, hand: Option<u64>)
-        ensures { let a = self.old in let b = self.new in SameDisk (with_walk (disk_of a.sectors.items a.phase a.settled a.kept a.hand) phase settled kept hand) (disk_of b.sectors.items b.phase b.settled b.kept b.hand) }
+        ensures { SameDisk (with_walk (shown self.old) phase settled kept hand) (shown self.new) }
     {
         self.phase = phase;
         self.settled = settled;
@@ -169,9 +169,5 @@ fn reopened(phase: Phase) -> Phase
 fn blank(heap: Global, size: usize) -> Result<Vec<Sector>, AllocError>
     ensures { IfOk result (λ v. v.items ≡ replicate size (replicate 512 0)) }
 {
-    let mut sectors = Vec::with_capacity(heap, size)?;
-    while sectors.len() < size {
-        sectors.push(zeros())?;
-    }
-    Ok(sectors)
+    vec![in heap; zeros(); size]
 }

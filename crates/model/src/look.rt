@@ -17,12 +17,7 @@ use shelf::image::Image;
 fn held_at<S: Image>(shelf: &S, member: u64, sector: u64) -> Option<Sector>
     ensures { Seen (S.Shelf.meaning shelf.now) member sector result }
 {
-    let mut content = zeros();
-    if shelf.current(member, sector, &mut content) {
-        Some(content)
-    } else {
-        None
-    }
+    shelf.current(member, sector)
 }
 
 // Whether a sector of a member that is there holds another content.
@@ -66,97 +61,6 @@ pub(crate) fn place_differs<S: Image>(
     holds_other(shelf, member, body_sector(backup, offset), content)
 }
 
-fn is_copy_there<S: Image, L: Layout>(shelf: &S, layout: &L, sector: u64, copy: u64) -> bool
-    requires sector { sector < room (L.Layout.geometry layout.now) }
-    requires copy { copy < (L.Layout.geometry layout.now).copies }
-    ensures { result ≡ is_there (S.Shelf.meaning shelf.now) ((L.Layout.geometry layout.now).datum sector copy) }
-{
-    shelf.is_present(layout.place(sector, copy).0)
-}
-
-// Whether some copy of a sector is there.
-fn has_copy<S: Image, L: Layout>(shelf: &S, layout: &L, sector: u64) -> bool
-    requires { sector < room (L.Layout.geometry layout.now) }
-    ensures { result ≡ some (λ j. is_there (S.Shelf.meaning shelf.now) ((L.Layout.geometry layout.now).datum sector j)) (L.Layout.geometry layout.now).copies }
-{
-    for copy in 0..layout.copies() {
-        if is_copy_there(shelf, layout, sector, copy) {
-            return true;
-        }
-    }
-    false
-}
-
-fn copy_differs<S: Image, L: Layout>(
-    shelf: &S,
-    layout: &L,
-    backup: u32,
-    content: &Sector,
-    sector: u64,
-    copy: u64,
-) -> bool
-    requires sector { sector < room (L.Layout.geometry layout.now) }
-    requires copy { copy < (L.Layout.geometry layout.now).copies }
-    ensures { result ≡ differs (S.Shelf.meaning shelf.now) backup content.now ((L.Layout.geometry layout.now).datum sector copy) }
-{
-    place_differs(shelf, backup, layout.place(sector, copy), content)
-}
-
-// Whether some copy of a sector is there and differs.
-fn some_copy_differs<S: Image, L: Layout>(
-    shelf: &S,
-    layout: &L,
-    backup: u32,
-    content: &Sector,
-    sector: u64,
-) -> bool
-    requires { sector < room (L.Layout.geometry layout.now) }
-    ensures { result ≡ some (λ j. differs (S.Shelf.meaning shelf.now) backup content.now ((L.Layout.geometry layout.now).datum sector j)) (L.Layout.geometry layout.now).copies }
-{
-    for copy in 0..layout.copies() {
-        if copy_differs(shelf, layout, backup, content, sector, copy) {
-            return true;
-        }
-    }
-    false
-}
-
-// Whether a peer other than the sector is gone.
-fn is_peer_gone<S: Image, L: Layout>(
-    shelf: &S,
-    layout: &L,
-    group: u64,
-    sector: u64,
-    index: u64,
-) -> bool
-    requires group { group < (L.Layout.geometry layout.now).groups }
-    requires index { index < (L.Layout.geometry layout.now).peers group }
-    ensures { result ≡ peer_gone (L.Layout.geometry layout.now) (S.Shelf.meaning shelf.now) group sector index }
-{
-    let peer = layout.peer(group, index);
-    peer != sector && !is_copy_there(shelf, layout, peer, 0)
-}
-
-fn some_peer_gone<S: Image, L: Layout>(shelf: &S, layout: &L, group: u64, sector: u64) -> bool
-    requires { group < (L.Layout.geometry layout.now).groups }
-    ensures { result ≡ some (peer_gone (L.Layout.geometry layout.now) (S.Shelf.meaning shelf.now) group sector) ((L.Layout.geometry layout.now).peers group) }
-{
-    for index in 0..layout.peers(group) {
-        if is_peer_gone(shelf, layout, group, sector, index) {
-            return true;
-        }
-    }
-    false
-}
-
-// Whether the group cannot give a sector.
-fn is_group_gone<S: Image, L: Layout>(shelf: &S, layout: &L, group: u64, sector: u64) -> bool
-    requires { group < (L.Layout.geometry layout.now).groups }
-    ensures { result ≡ group_gone (L.Layout.geometry layout.now) (S.Shelf.meaning shelf.now) group sector }
-{
-    some_peer_gone(shelf, layout, group, sector) || !shelf.is_present(layout.parity(group).0)
-}
-
 // Folds what a member holds into a content.
 fn fold_held<S: Image>(shelf: &S, backup: u32, place: Place, content: &mut Sector)
     requires { place.1 ≤ 16777216 }
@@ -165,118 +69,6 @@ fn fold_held<S: Image>(shelf: &S, backup: u32, place: Place, content: &mut Secto
     let (member, offset) = place;
     if let Some(held) = held_at(shelf, member, body_sector(backup, offset)) {
         fold(content, &held);
-    }
-}
-
-// Where a sector of a group lies.
-fn peer_place<L: Layout>(layout: &L, group: u64, index: u64) -> Place
-    requires group { group < (L.Layout.geometry layout.now).groups }
-    requires index { index < (L.Layout.geometry layout.now).peers group }
-    ensures place { result ≡ (L.Layout.geometry layout.now).datum ((L.Layout.geometry layout.now).peer group index) 0 }
-    ensures shallow { result.1 ≤ 16777216 }
-{
-    layout.place(layout.peer(group, index), 0)
-}
-
-// Where the parity of a group lies.
-fn parity_place<L: Layout>(layout: &L, group: u64) -> Place
-    requires { group < (L.Layout.geometry layout.now).groups }
-    ensures place { result ≡ (L.Layout.geometry layout.now).parity group }
-    ensures shallow { result.1 ≤ 16777216 }
-{
-    layout.parity(group)
-}
-
-// Folds a peer into a content, unless it is the sector itself.
-fn fold_peer<S: Image, L: Layout>(
-    shelf: &S,
-    layout: &L,
-    backup: u32,
-    group: u64,
-    sector: u64,
-    index: u64,
-    content: &mut Sector,
-)
-    requires group { group < (L.Layout.geometry layout.now).groups }
-    requires index { index < (L.Layout.geometry layout.now).peers group }
-    ensures { content.new ≡ (if nat_eq ((L.Layout.geometry layout.now).peer group index) sector then content.old else folded content.old (at (S.Shelf.meaning shelf.now) backup ((L.Layout.geometry layout.now).datum ((L.Layout.geometry layout.now).peer group index) 0))) }
-{
-    if layout.peer(group, index) != sector {
-        fold_held(shelf, backup, peer_place(layout, group, index), content);
-    }
-}
-
-// The peers of a sector, folded.
-fn folded_peers<S: Image, L: Layout>(
-    shelf: &S,
-    layout: &L,
-    backup: u32,
-    group: u64,
-    sector: u64,
-) -> Sector
-    requires { group < (L.Layout.geometry layout.now).groups }
-    ensures { result ≡ gathered (λ b. nat_eq ((L.Layout.geometry layout.now).peer group b) sector) (λ b. at (S.Shelf.meaning shelf.now) backup ((L.Layout.geometry layout.now).datum ((L.Layout.geometry layout.now).peer group b) 0)) ((L.Layout.geometry layout.now).peers group) }
-{
-    let mut content = zeros();
-    for index in 0..layout.peers(group) {
-        fold_peer(shelf, layout, backup, group, sector, index, &mut content);
-    }
-    content
-}
-
-// What the rest of its group makes a sector.
-fn rebuilt_of<S: Image, L: Layout>(
-    shelf: &S,
-    layout: &L,
-    backup: u32,
-    group: u64,
-    sector: u64,
-) -> Sector
-    requires { group < (L.Layout.geometry layout.now).groups }
-    ensures { result ≡ rebuilt (L.Layout.geometry layout.now) (S.Shelf.meaning shelf.now) backup group sector }
-{
-    let mut content = folded_peers(shelf, layout, backup, group, sector);
-    fold_held(shelf, backup, parity_place(layout, group), &mut content);
-    content
-}
-
-// Whether the group of a sector gives another content, or none.
-fn group_differs<S: Image, L: Layout>(
-    shelf: &S,
-    layout: &L,
-    backup: u32,
-    content: &Sector,
-    sector: u64,
-) -> bool
-    requires { sector < room (L.Layout.geometry layout.now) }
-    ensures { result ≡ group_differs_lem (L.Layout.geometry layout.now) (S.Shelf.meaning shelf.now) backup content.now sector }
-{
-    match layout.group(sector) {
-        None => true,
-        Some(group) => {
-            is_group_gone(shelf, layout, group, sector)
-                || !is_equal(&rebuilt_of(shelf, layout, backup, group, sector), content)
-        }
-    }
-}
-
-// Whether a layout's places show another content than this one.
-pub(crate) fn layout_differs<S: Image, L: Layout>(
-    shelf: &S,
-    layout: &L,
-    backup: u32,
-    content: &Sector,
-    sector: u64,
-) -> bool
-    ensures { result ≡ layout_differs_lem (L.Layout.geometry layout.now) (S.Shelf.meaning shelf.now) backup content.now sector }
-{
-    if sector >= layout.capacity() {
-        return true;
-    }
-    if has_copy(shelf, layout, sector) {
-        some_copy_differs(shelf, layout, backup, content, sector)
-    } else {
-        group_differs(shelf, layout, backup, content, sector)
     }
 }
 
@@ -326,5 +118,182 @@ pub(crate) fn backup_differs<S: Image>(
         some_member_differs(shelf, content, slot_sector(backup, sector))
     } else {
         true
+    }
+}
+
+// A shelf looked at as a layout has it, after so many backup slots.
+#[derive(Clone, Copy)]
+pub(crate) struct View<'a, S, L> {
+    pub(crate) shelf: &'a S,
+    pub(crate) layout: &'a L,
+    pub(crate) backup: u32,
+}
+
+impl<S: Image, L: Layout> View<'_, S, L> {
+    fn is_copy_there(&self, sector: u64, copy: u64) -> bool
+        requires sector { sector < room (L.Layout.geometry self.now.layout.now) }
+        requires copy { copy < (L.Layout.geometry self.now.layout.now).copies }
+        ensures { result ≡ is_there (S.Shelf.meaning self.now.shelf.now) ((L.Layout.geometry self.now.layout.now).datum sector copy) }
+    {
+        self.shelf.is_present(self.layout.place(sector, copy).0)
+    }
+
+    // Whether some copy of a sector is there.
+    fn has_copy(&self, sector: u64) -> bool
+        requires { sector < room (L.Layout.geometry self.now.layout.now) }
+        ensures { result ≡ some (λ j. is_there (S.Shelf.meaning self.now.shelf.now) ((L.Layout.geometry self.now.layout.now).datum sector j)) (L.Layout.geometry self.now.layout.now).copies }
+    {
+        for copy in 0..self.layout.copies() {
+            if self.is_copy_there(sector, copy) {
+                return true;
+            }
+        }
+        false
+    }
+
+    fn copy_differs(&self, content: &Sector, sector: u64, copy: u64) -> bool
+        requires sector { sector < room (L.Layout.geometry self.now.layout.now) }
+        requires copy { copy < (L.Layout.geometry self.now.layout.now).copies }
+        ensures { result ≡ differs (S.Shelf.meaning self.now.shelf.now) self.now.backup content.now ((L.Layout.geometry self.now.layout.now).datum sector copy) }
+    {
+        place_differs(
+            self.shelf,
+            self.backup,
+            self.layout.place(sector, copy),
+            content,
+        )
+    }
+
+    // Whether some copy of a sector is there and differs.
+    fn some_copy_differs(&self, content: &Sector, sector: u64) -> bool
+        requires { sector < room (L.Layout.geometry self.now.layout.now) }
+        ensures { result ≡ some (λ j. differs (S.Shelf.meaning self.now.shelf.now) self.now.backup content.now ((L.Layout.geometry self.now.layout.now).datum sector j)) (L.Layout.geometry self.now.layout.now).copies }
+    {
+        for copy in 0..self.layout.copies() {
+            if self.copy_differs(content, sector, copy) {
+                return true;
+            }
+        }
+        false
+    }
+
+    // Whether a peer other than the sector is gone.
+    fn is_peer_gone(&self, group: u64, sector: u64, index: u64) -> bool
+        requires group { group < (L.Layout.geometry self.now.layout.now).groups }
+        requires index { index < (L.Layout.geometry self.now.layout.now).peers group }
+        ensures { result ≡ peer_gone (L.Layout.geometry self.now.layout.now) (S.Shelf.meaning self.now.shelf.now) group sector index }
+    {
+        let peer = self.layout.peer(group, index);
+        peer != sector && !self.is_copy_there(peer, 0)
+    }
+
+    fn some_peer_gone(&self, group: u64, sector: u64) -> bool
+        requires { group < (L.Layout.geometry self.now.layout.now).groups }
+        ensures { result ≡ some (peer_gone (L.Layout.geometry self.now.layout.now) (S.Shelf.meaning self.now.shelf.now) group sector) ((L.Layout.geometry self.now.layout.now).peers group) }
+    {
+        for index in 0..self.layout.peers(group) {
+            if self.is_peer_gone(group, sector, index) {
+                return true;
+            }
+        }
+        false
+    }
+
+    // Whether the group cannot give a sector.
+    fn is_group_gone(&self, group: u64, sector: u64) -> bool
+        requires { group < (L.Layout.geometry self.now.layout.now).groups }
+        ensures { result ≡ group_gone (L.Layout.geometry self.now.layout.now) (S.Shelf.meaning self.now.shelf.now) group sector }
+    {
+        self.some_peer_gone(group, sector) || !self.shelf.is_present(self.layout.parity(group).0)
+    }
+
+    // Where a sector of a group lies.
+    fn peer_place(&self, group: u64, index: u64) -> Place
+        requires group { group < (L.Layout.geometry self.now.layout.now).groups }
+        requires index { index < (L.Layout.geometry self.now.layout.now).peers group }
+        ensures place { result ≡ (L.Layout.geometry self.now.layout.now).datum ((L.Layout.geometry self.now.layout.now).peer group index) 0 }
+        ensures shallow { result.1 ≤ 16777216 }
+    {
+        self.layout.place(self.layout.peer(group, index), 0)
+    }
+
+    // Where the parity of a group lies.
+    fn parity_place(&self, group: u64) -> Place
+        requires { group < (L.Layout.geometry self.now.layout.now).groups }
+        ensures place { result ≡ (L.Layout.geometry self.now.layout.now).parity group }
+        ensures shallow { result.1 ≤ 16777216 }
+    {
+        self.layout.parity(group)
+    }
+
+    // Folds a peer into a content, unless it is the sector itself.
+    fn fold_peer(&self, group: u64, sector: u64, index: u64, content: &mut Sector)
+        requires group { group < (L.Layout.geometry self.now.layout.now).groups }
+        requires index { index < (L.Layout.geometry self.now.layout.now).peers group }
+        ensures { content.new ≡ (if nat_eq ((L.Layout.geometry self.now.layout.now).peer group index) sector then content.old else folded content.old (at (S.Shelf.meaning self.now.shelf.now) self.now.backup ((L.Layout.geometry self.now.layout.now).datum ((L.Layout.geometry self.now.layout.now).peer group index) 0))) }
+    {
+        if self.layout.peer(group, index) != sector {
+            fold_held(
+                self.shelf,
+                self.backup,
+                self.peer_place(group, index),
+                content,
+            );
+        }
+    }
+
+    // The peers of a sector, folded.
+    fn folded_peers(&self, group: u64, sector: u64) -> Sector
+        requires { group < (L.Layout.geometry self.now.layout.now).groups }
+        ensures { result ≡ gathered (λ b. nat_eq ((L.Layout.geometry self.now.layout.now).peer group b) sector) (λ b. at (S.Shelf.meaning self.now.shelf.now) self.now.backup ((L.Layout.geometry self.now.layout.now).datum ((L.Layout.geometry self.now.layout.now).peer group b) 0)) ((L.Layout.geometry self.now.layout.now).peers group) }
+    {
+        let mut content = zeros();
+        for index in 0..self.layout.peers(group) {
+            self.fold_peer(group, sector, index, &mut content);
+        }
+        content
+    }
+
+    // What the rest of its group makes a sector.
+    fn rebuilt_of(&self, group: u64, sector: u64) -> Sector
+        requires { group < (L.Layout.geometry self.now.layout.now).groups }
+        ensures { result ≡ rebuilt (L.Layout.geometry self.now.layout.now) (S.Shelf.meaning self.now.shelf.now) self.now.backup group sector }
+    {
+        let mut content = self.folded_peers(group, sector);
+        fold_held(
+            self.shelf,
+            self.backup,
+            self.parity_place(group),
+            &mut content,
+        );
+        content
+    }
+
+    // Whether the group of a sector gives another content, or none.
+    fn group_differs(&self, content: &Sector, sector: u64) -> bool
+        requires { sector < room (L.Layout.geometry self.now.layout.now) }
+        ensures { result ≡ group_differs_lem (L.Layout.geometry self.now.layout.now) (S.Shelf.meaning self.now.shelf.now) self.now.backup content.now sector }
+    {
+        match self.layout.group(sector) {
+            None => true,
+            Some(group) => {
+                self.is_group_gone(group, sector)
+                    || !is_equal(&self.rebuilt_of(group, sector), content)
+            }
+        }
+    }
+
+    // Whether a layout's places show another content than this one.
+    pub(crate) fn differs(&self, content: &Sector, sector: u64) -> bool
+        ensures { result ≡ layout_differs_lem (L.Layout.geometry self.now.layout.now) (S.Shelf.meaning self.now.shelf.now) self.now.backup content.now sector }
+    {
+        if sector >= self.layout.capacity() {
+            return true;
+        }
+        if self.has_copy(sector) {
+            self.some_copy_differs(content, sector)
+        } else {
+            self.group_differs(content, sector)
+        }
     }
 }

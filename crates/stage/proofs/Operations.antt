@@ -1,10 +1,10 @@
 -- What one operation of any shelf makes of it.
-use Rattle.std.proofs.Common.{◌≡◌, ℕ, ◌<◌, true, false, ◌⊎◌, List, length, sym, refl, ap, ◌∙◌, subst, inl, inr, arith}
+use Rattle.std.proofs.Common.{◌≡◌, ℕ, ◌<◌, true, false, ◌⊎◌, List, length, sym, refl, ap, ◌∙◌, subst, inl, inr, arith, Ok, Err}
 use mathlib.Core.Path.{fun_ext}
 use Rattle.std.proofs.lemmas.Bool.{both_ways, cases_Bool, cases_eq, cases_lt}
 use Rattle.shelf.specs.Meaning.{Kept, Meaning, Sets, Settles, Tells, WriteIn, Writes}
-use Rattle.shelf.specs.declared.Answer.{Answer}
-use Rattle.shelf.specs.declared.Answer.TheVariants.{Done, Absent, Off, Refused}
+use Rattle.shelf.specs.Answers.{Answer}
+use Rattle.shelf.specs.declared.Failure.TheVariants.{Absent, Off, OutOfRange}
 use Rattle.stage.specs.May.{May}
 use Rattle.stage.specs.Cells.{Left, Put, PutAt}
 use Rattle.stage.proofs.Mays.{may_refl}
@@ -17,10 +17,10 @@ same_present m a b kept there =
     fun_ext (λ k. elim (cases_eq k m) [ inl e ↦ subst (λ j. b.present j ≡ a.present j) (sym e) here | inr ne ↦ kept.others k ne ])
 
 left_by : (r : Answer) (m : ℕ) (a b : Meaning) → Kept m a b → Tells r m b → Left r m a b
-left_by Done m a b kept tells = (tells.0, same_present m a b kept tells.1)
-left_by Absent m a b kept tells = tells
-left_by Off m a b kept tells = tells
-left_by Refused m a b kept tells = absurd tells
+left_by (Ok x) m a b kept tells = (tells.0, same_present m a b kept tells.1)
+left_by (Err Absent) m a b kept tells = tells
+left_by (Err Off) m a b kept tells = tells
+left_by (Err OutOfRange) m a b kept tells = absurd tells
 
 may_by : {P : ℕ → ℕ → List ℕ → Type 0} (m : ℕ) (a b : Meaning) → Kept m a b → Settles a b
     → ((k s : ℕ) → (b.current k s ≡ a.current k s) ⊎ P k s (b.current k s)) → May P a b
@@ -44,16 +44,16 @@ may_by {P} m a b kept settles now = record {
 
 -- what a write leaves in its own sector
 set_or_same : (r : Answer) (c old new : List ℕ) → Sets r c old new → (new ≡ old) ⊎ (new ≡ c)
-set_or_same Done c old new e = inr e
-set_or_same Absent c old new e = inl e
-set_or_same Off c old new e = e
-set_or_same Refused c old new e = inl e
+set_or_same (Ok x) c old new e = inr e
+set_or_same (Err Absent) c old new e = inl e
+set_or_same (Err Off) c old new e = e
+set_or_same (Err OutOfRange) c old new e = inl e
 
 put_by : (r : Answer) (m t : ℕ) (c : List ℕ) (a b : Meaning) → Tells r m b → Sets r c (a.current m t) (b.current m t) → Put r m t c a b
-put_by Done m t c a b tells sets = λ below. sets
-put_by Absent m t c a b tells sets = tt
-put_by Off m t c a b tells sets = tt
-put_by Refused m t c a b tells sets = absurd tells
+put_by (Ok x) m t c a b tells sets = λ below. sets
+put_by (Err Absent) m t c a b tells sets = tt
+put_by (Err Off) m t c a b tells sets = tt
+put_by (Err OutOfRange) m t c a b tells sets = absurd tells
 
 put_in : (m t : ℕ) (c : List ℕ) (a b : Meaning) (r : Answer) → WriteIn m t c a b r → PutAt m t c a b r
 put_in m t c a b r w = record {
@@ -72,7 +72,7 @@ put_in m t c a b r w = record {
   put = put_by r m t c a b w.tells w.sets;
 }
 
-put_out : (m t : ℕ) (c : List ℕ) (a b : Meaning) (r : Answer) → ((a.present m ≡ true) × (t < a.sectors) → ⊥) → (r ≡ Refused) × (b ≡ a) → PutAt m t c a b r
+put_out : (m t : ℕ) (c : List ℕ) (a b : Meaning) (r : Answer) → ((a.present m ≡ true) × (t < a.sectors) → ⊥) → (r ≡ (Err OutOfRange)) × (b ≡ a) → PutAt m t c a b r
 put_out m t c a b r outside e =
     subst (λ (x : Meaning). PutAt m t c a x r) (sym e.1) (subst (λ x. PutAt m t c a a x) (sym e.0)
     (record { may = may_refl a; others = λ k ne. refl; left = (refl, refl); put = outside }))

@@ -1,16 +1,16 @@
 -- One operation on one member, by its answer.
-use Rattle.std.specs.Prelude.{◌≡◌, ℕ, ◌<◌, true, false, List, ◌≢◌}
+use Rattle.std.specs.Prelude.{◌≡◌, ℕ, ◌<◌, true, false, List, ◌≢◌, Ok, Err}
 use Rattle.shelf.specs.Meaning.{Meaning}
-use Rattle.shelf.specs.declared.Answer.{Answer}
-use Rattle.shelf.specs.declared.Answer.TheVariants.{Done, Absent, Off, Refused}
+use Rattle.shelf.specs.Answers.{Answer}
+use Rattle.shelf.specs.declared.Failure.TheVariants.{Absent, Off, OutOfRange}
 use Rattle.stage.specs.May.{AtCell, May, nothing}
 
 -- who is present afterwards, and whether power is
 abbrev pub Left : Answer → ℕ → Meaning → Meaning → Type 0
-Left Done m a b = (b.on ≡ true) × (b.present ≡ a.present)
-Left Absent m a b = (b.on ≡ true) × (b.present m ≡ false)
-Left Off m a b = b.on ≡ false
-Left Refused m a b = (b.on ≡ a.on) × (b.present ≡ a.present)
+Left (Ok x) m a b = (b.on ≡ true) × (b.present ≡ a.present)
+Left (Err Absent) m a b = (b.on ≡ true) × (b.present m ≡ false)
+Left (Err Off) m a b = b.on ≡ false
+Left (Err OutOfRange) m a b = (b.on ≡ a.on) × (b.present ≡ a.present)
 
 -- the members that are not named stay as they are
 abbrev pub Others : ℕ → Meaning → Meaning → Type 0
@@ -21,22 +21,22 @@ abbrev pub Has : Meaning → ℕ → ℕ → Type 0
 Has a m t = (a.present m ≡ true) × (t < a.sectors)
 
 abbrev pub Put : Answer → ℕ → ℕ → List ℕ → Meaning → Meaning → Type 0
-Put Done m t c a b = t < a.sectors → b.current m t ≡ c
-Put Absent m t c a b = Unit {0}
-Put Off m t c a b = Unit {0}
-Put Refused m t c a b = Has a m t → ⊥
+Put (Ok x) m t c a b = t < a.sectors → b.current m t ≡ c
+Put (Err Absent) m t c a b = Unit {0}
+Put (Err Off) m t c a b = Unit {0}
+Put (Err OutOfRange) m t c a b = Has a m t → ⊥
 
 abbrev pub Got : Answer → ℕ → ℕ → List ℕ → List ℕ → Meaning → Meaning → Type 0
-Got Done m t old new a b = t < a.sectors → new ≡ b.current m t
-Got Absent m t old new a b = new ≡ old
-Got Off m t old new a b = new ≡ old
-Got Refused m t old new a b = (new ≡ old) × (Has a m t → ⊥)
+Got (Ok x) m t old new a b = t < a.sectors → new ≡ b.current m t
+Got (Err Absent) m t old new a b = new ≡ old
+Got (Err Off) m t old new a b = new ≡ old
+Got (Err OutOfRange) m t old new a b = (new ≡ old) × (Has a m t → ⊥)
 
 abbrev pub Settled : Answer → ℕ → Meaning → Meaning → Type 0
-Settled Done m a b = (s : ℕ) → b.settled m s ≡ b.current m s
-Settled Absent m a b = Unit {0}
-Settled Off m a b = Unit {0}
-Settled Refused m a b = a.present m ≡ true → ⊥
+Settled (Ok x) m a b = (s : ℕ) → b.settled m s ≡ b.current m s
+Settled (Err Absent) m a b = Unit {0}
+Settled (Err Off) m a b = Unit {0}
+Settled (Err OutOfRange) m a b = a.present m ≡ true → ⊥
 
 pub record PutAt (m t : ℕ) (c : List ℕ) (a b : Meaning) (r : Answer) : Type 0 where
   pub may : May (AtCell m t c) a b

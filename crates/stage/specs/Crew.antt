@@ -2,6 +2,7 @@
 use Rattle.std.specs.Prelude.{ℕ, zero, suc, ◌+◌, min, Bool, false, cond, ◌&&◌, nat_le}
 use Rattle.layout.specs.Geometry.{Geometry}
 use Rattle.shelf.specs.Meaning.{Meaning}
+use Rattle.stage.specs.declared.array.Array.{Array}
 use Rattle.stage.specs.declared.phase.Phase.{Phase}
 use Rattle.stage.specs.declared.phase.Phase.TheVariants.{Before, Moving, After, Shut}
 
@@ -32,3 +33,7 @@ enough c a = enough_by c.phase c.source c.target a
 
 abbrev pub crew : Phase → Geometry → Geometry → Crew
 crew phase s t = record { phase = phase; source = s; target = t }
+
+-- those of an array, by what its layouts place where
+abbrev pub crew_of : {L : Type 0} → (L → Geometry) → Array L → Crew
+crew_of place a = crew a.phase (place a.source) (place a.target)

@@ -1,11 +1,13 @@
 -- What the stages leave when they are done, and the operations that they name when they are not.
-use Rattle.std.specs.Prelude.{◌≡◌, ℕ, ◌<◌, Bool, true, false, ◌⊎◌, List, Some, None, Ok, Err, Result}
+use Rattle.std.specs.Prelude.{◌≡◌, ℕ, ◌<◌, Bool, true, false, ◌⊎◌, List, Some, None, Ok, Err, Option, Result}
 use Rattle.answer.specs.declared.Operation.{Operation}
 use Rattle.answer.specs.declared.Operation.TheVariants.{Write, Flush}
-use Rattle.answer.specs.declared.Refusal.TheVariants.{MembersLost}
+use Rattle.answer.specs.declared.Refusal.TheVariants.{MembersLost, PowerLost}
 use Rattle.answer.specs.declared.Fault.{Fault}
 use Rattle.answer.specs.declared.Refused.{Refused}
+use Rattle.shelf.specs.Answers.{Answer}
 use Rattle.shelf.specs.Meaning.{Meaning}
+use Rattle.shelf.specs.declared.Failure.TheVariants.{Absent, Off, OutOfRange}
 use Rattle.stage.specs.Crew.{Crew, enough}
 
 -- an operation on a sector of a member
@@ -22,10 +24,17 @@ pub record OnSector (op : Operation) (a : Meaning) (t : ℕ) (f : Fault) : Type 
   pub sector : f.sector ≡ t
   pub row : f.row ≡ None
 
--- the loss of a member is borne, or too few are left
-abbrev pub Bears : Crew → Fault → Meaning → Result Unit Refused → Type 0
-Bears w f a (Ok x) = enough w a ≡ true
+-- a stage goes on without a member that is gone, or too few are left
+abbrev pub Bears : Crew → Fault → Meaning → Result Bool Refused → Type 0
+Bears w f a (Ok here) = (here ≡ false) × (enough w a ≡ true)
 Bears w f a (Err e) = (enough w a ≡ false) × (e ≡ record { refusal = MembersLost; fault = Some f })
+
+-- what an operation's answer makes of a stage: it goes on with the member or without it, or ends here
+abbrev pub Weighed : Crew → Answer → Fault → Meaning → Result Bool Refused → Type 0
+Weighed w (Ok x) f a r = r ≡ Ok true
+Weighed w (Err OutOfRange) f a r = r ≡ Ok true
+Weighed w (Err Off) f a r = r ≡ Err (record { refusal = PowerLost; fault = Some f })
+Weighed w (Err Absent) f a r = Bears w f a r
 
 -- the sector of that member holds the content, if it is there and has such a sector
 abbrev pub WrittenAt : (m t : ℕ) → List ℕ → Meaning → Type 0
@@ -35,10 +44,10 @@ WrittenAt m t c b = b.present m ≡ true → t < b.sectors → b.current m t ≡
 abbrev pub FlushedAt : ℕ → Meaning → Type 0
 FlushedAt m b = b.present m ≡ true → (s : ℕ) → b.settled m s ≡ b.current m s
 
--- a read that succeeded gives what is current there; else the member is not there
-abbrev pub ReadAt : (m t : ℕ) → List ℕ → Meaning → Bool → Type 0
-ReadAt m t new b true = (b.present m ≡ true) × (t < b.sectors → new ≡ b.current m t)
-ReadAt m t new b false = b.present m ≡ false
+-- a read gives what is current there, or the member is not there
+abbrev pub ReadAt : (m t : ℕ) → Meaning → Option (List ℕ) → Type 0
+ReadAt m t b (Some content) = (b.present m ≡ true) × (t < b.sectors → content ≡ b.current m t)
+ReadAt m t b None = b.present m ≡ false
 
 -- the same of every member
 abbrev pub WrittenAll : ℕ → List ℕ → Meaning → Type 0
@@ -58,10 +67,10 @@ pub record FromLowest (t : ℕ) (new : List ℕ) (b : Meaning) : Type 0 where
   pub lowest : Lowest b member
   pub content : t < b.sectors → new ≡ b.current member t
 
--- a read from the lowest member; none is there if it could not
-abbrev pub ReadAny : ℕ → List ℕ → Meaning → Bool → Type 0
-ReadAny t new b true = FromLowest t new b
-ReadAny t new b false = (k : ℕ) → b.present k ≡ false
+-- a read from the lowest member, or none is there
+abbrev pub ReadAny : ℕ → Meaning → Option (List ℕ) → Type 0
+ReadAny t b (Some content) = FromLowest t content b
+ReadAny t b None = (k : ℕ) → b.present k ≡ false
 
 -- an operation of one kind or of another
 abbrev pub Either : (Fault → Type 0) → (Fault → Type 0) → Fault → Type 0

@@ -1,6 +1,6 @@
 // The arrays that a volume is laid on, and whether enough members are present for them.
 ghost use Rattle.std.specs.Prelude.{◌≡◌, ◌≤◌, if◌then◌else◌};
-ghost use Rattle.stage.specs.Crew.{absent_of, borne, crew, enough};
+ghost use Rattle.stage.specs.Crew.{absent_of, borne, crew_of, enough};
 
 use crate::phase::Phase;
 use head::Head;
@@ -21,7 +21,7 @@ fn missing<S: Shelf>(shelf: &S, member: u64) -> u64
     ensures count { result ≡ (if (S.meaning shelf.now).present member then 0 else 1) }
     ensures one { result ≤ 1 }
 {
-    if shelf.is_present(member) { 0 } else { 1 }
+    u64::from(!shelf.is_present(member))
 }
 
 // How many of the first members are absent.
@@ -45,7 +45,7 @@ pub fn bears<S: Shelf, L: Layout>(shelf: &S, layout: &L) -> bool
 impl<L: Layout> Array<L> {
     // Whether enough members are present for the layouts in force.
     pub fn enough<S: Shelf>(&self, shelf: &S) -> bool
-        ensures { result ≡ enough (crew self.now.phase (L.geometry self.now.source) (L.geometry self.now.target)) (S.meaning shelf.now) }
+        ensures { result ≡ enough (crew_of L.geometry self.now) (S.meaning shelf.now) }
     {
         match self.phase {
             Phase::Before => bears(shelf, &self.source),

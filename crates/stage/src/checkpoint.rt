@@ -1,7 +1,7 @@
 // Checkpoints.
 ghost use Rattle.std.specs.Prelude.{◌≡◌};
 ghost use Rattle.stage.specs.Checkpoint.{Checkpointed};
-ghost use Rattle.stage.specs.Crew.{crew};
+ghost use Rattle.stage.specs.Crew.{crew_of};
 
 use crate::array::Array;
 use answer::{Refusal, Refused};
@@ -19,7 +19,7 @@ impl<L: Layout> Array<L> {
         progress: Progress,
         armed: Option<u64>,
     ) -> Result<(), Refused>
-        ensures stage { Checkpointed (crew self.old.phase (L.geometry self.old.source) (L.geometry self.old.target)) source progress armed self.old.head self.new.head (S.meaning shelf.old) (S.meaning shelf.new) result }
+        ensures stage { Checkpointed (crew_of L.geometry self.old) source progress armed self.old.head self.new.head (S.meaning shelf.old) (S.meaning shelf.new) result }
         ensures source { self.new.source ≡ self.old.source }
         ensures target { self.new.target ≡ self.old.target }
         ensures phase { self.new.phase ≡ self.old.phase }

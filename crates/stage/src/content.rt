@@ -3,7 +3,6 @@ use crate::array::Array;
 use answer::{Refusal, Refused};
 use layout::Layout;
 use layout::place::Place;
-use overlap::walk::Home;
 use sector::{Sector, fold, zeros};
 use shelf::Shelf;
 
@@ -13,107 +12,69 @@ impl<L: Layout> Array<L> {
         &self,
         shelf: &mut S,
         sector: u64,
-        content: &mut Sector,
-    ) -> Result<(), Refused> {
-        if self.read_any(shelf, sector, content)? {
-            Ok(())
-        } else {
-            Err(Refusal::MembersLost.into())
-        }
+    ) -> Result<Sector, Refused> {
+        Ok(self.read_any(shelf, sector)?.ok_or(Refusal::MembersLost)?)
     }
 
     // The content of a sector, read from its home.
-    pub fn show<S: Shelf>(
-        &self,
-        shelf: &mut S,
-        sector: u64,
-        content: &mut Sector,
-    ) -> Result<(), Refused> {
-        match self.home(sector) {
-            Home::Source => self.show_in(shelf, &self.source, sector, content),
-            Home::Target => self.show_in(shelf, &self.target, sector, content),
-            Home::Backup => self.read_held(shelf, self.slot(sector), content),
+    pub fn show<S: Shelf>(&self, shelf: &mut S, sector: u64) -> Result<Sector, Refused> {
+        match self.home_layout(sector) {
+            Some(layout) => self.show_in(shelf, layout, sector),
+            None => self.read_held(shelf, self.slot(sector)),
         }
     }
 
     // The content of a sector as a layout's places give it: the lowest copy present, else what the rest of its group makes it.
-    fn show_in<S: Shelf>(
-        &self,
-        shelf: &mut S,
-        layout: &L,
-        sector: u64,
-        content: &mut Sector,
-    ) -> Result<(), Refused> {
+    fn show_in<S: Shelf>(&self, shelf: &mut S, layout: &L, sector: u64) -> Result<Sector, Refused> {
         for copy in 0..layout.copies() {
-            if self.read_place(shelf, layout.place(sector, copy), content)? {
-                return Ok(());
+            if let Some(content) = self.read_place(shelf, layout.place(sector, copy))? {
+                return Ok(content);
             }
         }
-        self.rebuild(shelf, layout, sector, content)
+        self.rebuild(shelf, layout, sector)
     }
 
     // A lost sector: the exclusive-or of its peers and the parity.
-    fn rebuild<S: Shelf>(
-        &self,
-        shelf: &mut S,
-        layout: &L,
-        sector: u64,
-        content: &mut Sector,
-    ) -> Result<(), Refused> {
-        let Some(group) = layout.group(sector) else {
-            return Err(Refusal::MembersLost.into());
-        };
-        *content = zeros();
-        if self.fold_others(shelf, layout, group, sector, content)?
-            && self.fold_place(shelf, layout.parity(group), content)?
-        {
-            Ok(())
-        } else {
-            Err(Refusal::MembersLost.into())
-        }
+    fn rebuild<S: Shelf>(&self, shelf: &mut S, layout: &L, sector: u64) -> Result<Sector, Refused> {
+        let group = layout.group(sector).ok_or(Refusal::MembersLost)?;
+        let mut content = self
+            .fold_others(shelf, layout, group, sector, zeros())?
+            .ok_or(Refusal::MembersLost)?;
+        fold(&mut content, &self.place_held(shelf, layout.parity(group))?);
+        Ok(content)
     }
 
-    // Folds all peers of a sector into a content; false where one could not be read.
+    // A content with all peers of a sector folded into it; None where one cannot be read.
     fn fold_others<S: Shelf>(
         &self,
         shelf: &mut S,
         layout: &L,
         group: u64,
         sector: u64,
-        content: &mut Sector,
-    ) -> Result<bool, Refused> {
+        content: Sector,
+    ) -> Result<Option<Sector>, Refused> {
+        let mut folded = content;
         for index in 0..layout.peers(group) {
             let peer = layout.peer(group, index);
-            if peer != sector && !self.fold_place(shelf, layout.place(peer, 0), content)? {
-                return Ok(false);
+            if peer != sector {
+                let Some(read) = self.read_place(shelf, layout.place(peer, 0))? else {
+                    return Ok(None);
+                };
+                fold(&mut folded, &read);
             }
         }
-        Ok(true)
+        Ok(Some(folded))
     }
 
-    // Folds what lies at a place into a content; false where it could not be read.
-    fn fold_place<S: Shelf>(
-        &self,
-        shelf: &mut S,
-        place: Place,
-        content: &mut Sector,
-    ) -> Result<bool, Refused> {
-        let mut read = zeros();
-        let done = self.read_place(shelf, place, &mut read)?;
-        if done {
-            fold(content, &read);
-        }
-        Ok(done)
-    }
-
-    pub(crate) fn read_place<S: Shelf>(
-        &self,
-        shelf: &mut S,
-        place: Place,
-        content: &mut Sector,
-    ) -> Result<bool, Refused> {
+    // What lies at a place; None where its member is not present.
+    fn read_place<S: Shelf>(&self, shelf: &mut S, place: Place) -> Result<Option<Sector>, Refused> {
         let (member, offset) = place;
-        self.read_at(shelf, member, self.body().saturating_add(offset), content)
+        self.read_at(shelf, member, self.body().saturating_add(offset))
+    }
+
+    // The same, where the call cannot do without it.
+    fn place_held<S: Shelf>(&self, shelf: &mut S, place: Place) -> Result<Sector, Refused> {
+        Ok(self.read_place(shelf, place)?.ok_or(Refusal::MembersLost)?)
     }
 
     // The parity that a write of a sector makes of its home, or zeros where the home has none.
@@ -123,10 +84,9 @@ impl<L: Layout> Array<L> {
         sector: u64,
         datum: &Sector,
     ) -> Result<Sector, Refused> {
-        match self.home(sector) {
-            Home::Source => self.parity_in(shelf, &self.source, sector, datum),
-            Home::Target => self.parity_in(shelf, &self.target, sector, datum),
-            Home::Backup => Ok(zeros()),
+        match self.home_layout(sector) {
+            Some(layout) => self.parity_in(shelf, layout, sector, datum),
+            None => Ok(zeros()),
         }
     }
 
@@ -142,11 +102,10 @@ impl<L: Layout> Array<L> {
         let Some(group) = layout.group(sector) else {
             return Ok(zeros());
         };
-        let mut parity = *datum;
-        if self.fold_others(shelf, layout, group, sector, &mut parity)? {
-            return Ok(parity);
+        match self.fold_others(shelf, layout, group, sector, *datum)? {
+            Some(parity) => Ok(parity),
+            None => self.parity_by_change(shelf, layout, group, sector, datum),
         }
-        self.parity_by_change(shelf, layout, group, sector, datum)
     }
 
     // Where a peer is lost: the old parity with the old datum taken out and the new one put in.
@@ -159,12 +118,11 @@ impl<L: Layout> Array<L> {
         datum: &Sector,
     ) -> Result<Sector, Refused> {
         let mut parity = *datum;
-        if self.fold_place(shelf, layout.place(sector, 0), &mut parity)?
-            && self.fold_place(shelf, layout.parity(group), &mut parity)?
-        {
-            Ok(parity)
-        } else {
-            Err(Refusal::MembersLost.into())
-        }
+        fold(
+            &mut parity,
+            &self.place_held(shelf, layout.place(sector, 0))?,
+        );
+        fold(&mut parity, &self.place_held(shelf, layout.parity(group))?);
+        Ok(parity)
     }
 }

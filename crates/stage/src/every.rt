@@ -2,7 +2,7 @@
 ghost use Rattle.std.specs.Prelude.{◌≡◌};
 ghost use Rattle.answer.specs.declared.Operation.TheVariants.{Read, Write, Flush};
 ghost use Rattle.head.specs.Heads.{head_bytes};
-ghost use Rattle.stage.specs.Crew.{crew};
+ghost use Rattle.stage.specs.Crew.{crew_of};
 ghost use Rattle.stage.specs.Done.{FlushedAll, OnHeads, OnSector, ReadAny, Spread, WrittenAll};
 ghost use Rattle.stage.specs.Ends.{Stage};
 ghost use Rattle.stage.specs.May.{AtSector, nothing};
@@ -22,7 +22,7 @@ impl<L: Layout> Array<L> {
         sector: u64,
         content: &Sector,
     ) -> Result<(), Refused>
-        ensures { Stage (crew self.now.phase (L.geometry self.now.source) (L.geometry self.now.target)) (AtSector sector content.now) (OnSector Write (S.meaning shelf.old) sector) (S.meaning shelf.old) (S.meaning shelf.new) (λ _. WrittenAll sector content.now (S.meaning shelf.new)) result }
+        ensures { Stage (crew_of L.geometry self.now) (AtSector sector content.now) (OnSector Write (S.meaning shelf.old) sector) (S.meaning shelf.old) (S.meaning shelf.new) (λ _. WrittenAll sector content.now (S.meaning shelf.new)) result }
     {
         for member in 0..shelf.members() {
             self.write_at(shelf, member, sector, content)?;
@@ -32,7 +32,7 @@ impl<L: Layout> Array<L> {
 
     // Settles what is current on every present member.
     pub fn flush_all<S: Shelf>(&self, shelf: &mut S) -> Result<(), Refused>
-        ensures { Stage (crew self.now.phase (L.geometry self.now.source) (L.geometry self.now.target)) nothing (OnSector Flush (S.meaning shelf.old) 0) (S.meaning shelf.old) (S.meaning shelf.new) (λ _. FlushedAll (S.meaning shelf.new)) result }
+        ensures { Stage (crew_of L.geometry self.now) nothing (OnSector Flush (S.meaning shelf.old) 0) (S.meaning shelf.old) (S.meaning shelf.new) (λ _. FlushedAll (S.meaning shelf.new)) result }
     {
         for member in 0..shelf.members() {
             self.flush_at(shelf, member)?;
@@ -40,26 +40,21 @@ impl<L: Layout> Array<L> {
         Ok(())
     }
 
-    // Reads a sector that every member holds, from the lowest one that answers; false where none is there.
-    pub fn read_any<S: Shelf>(
-        &self,
-        shelf: &mut S,
-        sector: u64,
-        content: &mut Sector,
-    ) -> Result<bool, Refused>
-        ensures { Stage (crew self.now.phase (L.geometry self.now.source) (L.geometry self.now.target)) nothing (OnSector Read (S.meaning shelf.old) sector) (S.meaning shelf.old) (S.meaning shelf.new) (λ could. ReadAny sector content.new (S.meaning shelf.new) could) result }
+    // A sector that every member holds, from the lowest one that answers; None where none is there.
+    pub fn read_any<S: Shelf>(&self, shelf: &mut S, sector: u64) -> Result<Option<Sector>, Refused>
+        ensures { Stage (crew_of L.geometry self.now) nothing (OnSector Read (S.meaning shelf.old) sector) (S.meaning shelf.old) (S.meaning shelf.new) (λ found. ReadAny sector (S.meaning shelf.new) found) result }
     {
         for member in 0..shelf.members() {
-            if self.read_at(shelf, member, sector, content)? {
-                return Ok(true);
+            if let Some(content) = self.read_at(shelf, member, sector)? {
+                return Ok(Some(content));
             }
         }
-        Ok(false)
+        Ok(None)
     }
 
     // Makes a head the last one on every present member.
     pub fn spread<S: Shelf>(&self, shelf: &mut S, head: &Head) -> Result<(), Refused>
-        ensures { Stage (crew self.now.phase (L.geometry self.now.source) (L.geometry self.now.target)) (AtSector 0 (head_bytes head.now)) (OnHeads (S.meaning shelf.old)) (S.meaning shelf.old) (S.meaning shelf.new) (λ _. Spread 0 (head_bytes head.now) (S.meaning shelf.new)) result }
+        ensures { Stage (crew_of L.geometry self.now) (AtSector 0 (head_bytes head.now)) (OnHeads (S.meaning shelf.old)) (S.meaning shelf.old) (S.meaning shelf.new) (λ _. Spread 0 (head_bytes head.now) (S.meaning shelf.new)) result }
     {
         self.write_all(shelf, HEAD_AT, &head.encode())?;
         self.flush_all(shelf)

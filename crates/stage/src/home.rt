@@ -3,7 +3,7 @@ ghost use Rattle.stage.specs.Walks.{WalkOf};
 
 use crate::array::Array;
 use crate::phase::Phase;
-use head::{Progress, SLOTS_AT};
+use head::SLOTS_AT;
 use layout::Layout;
 use overlap::walk::{Home, Walk};
 
@@ -12,15 +12,11 @@ impl<L: Layout> Array<L> {
     pub fn walk(&self) -> Walk
         ensures { WalkOf (L.geometry self.now.source) (L.geometry self.now.target) self.now.head result }
     {
-        let (settled, kept) = match self.head.progress {
-            Progress::Idle => (0, 0),
-            Progress::Moving { settled, kept, .. } => (settled, kept),
-        };
         Walk {
             source_len: self.source.row_len(),
             target_len: self.target.row_len(),
-            settled,
-            kept,
+            settled: self.head.progress.settled(),
+            kept: self.head.progress.kept(),
             size: self.head.size,
             backup: u64::from(self.head.backup),
         }
@@ -32,6 +28,15 @@ impl<L: Layout> Array<L> {
             Phase::Moving => self.walk().home(sector),
             Phase::After => Home::Target,
             Phase::Before | Phase::Shut(_) => Home::Source,
+        }
+    }
+
+    // The layout that has a sector's home; None where a backup slot is.
+    pub(crate) fn home_layout(&self, sector: u64) -> Option<&L> {
+        match self.home(sector) {
+            Home::Source => Some(&self.source),
+            Home::Target => Some(&self.target),
+            Home::Backup => None,
         }
     }
 

@@ -8,7 +8,7 @@ mod checkpoint;
 mod content;
 mod every;
 mod home;
-mod logged;
+pub mod logged;
 mod member;
 mod operation;
 pub mod phase;

@@ -4,46 +4,42 @@ use answer::Refused;
 use head::{LOGGED_DATUM_AT, LOGGED_PARITY_AT};
 use layout::Layout;
 use layout::place::Place;
-use overlap::walk::Home;
-use sector::{Sector, zeros};
+use sector::Sector;
 use shelf::Shelf;
+
+// A write of a sector: what it holds from then on, and the parity of its group, or zeros where its home has none.
+#[derive(Clone, Copy)]
+pub struct Entry {
+    pub sector: u64,
+    pub datum: Sector,
+    pub parity: Sector,
+}
 
 impl<L: Layout> Array<L> {
     // Puts a write into the log on every present member. Nothing rests on it until a head is armed for it.
-    pub fn log<S: Shelf>(
-        &self,
-        shelf: &mut S,
-        datum: &Sector,
-        parity: &Sector,
-    ) -> Result<(), Refused> {
-        self.write_all(shelf, LOGGED_DATUM_AT, datum)?;
-        self.write_all(shelf, LOGGED_PARITY_AT, parity)?;
+    pub fn log<S: Shelf>(&self, shelf: &mut S, entry: &Entry) -> Result<(), Refused> {
+        self.write_all(shelf, LOGGED_DATUM_AT, &entry.datum)?;
+        self.write_all(shelf, LOGGED_PARITY_AT, &entry.parity)?;
         self.flush_all(shelf)
     }
 
     // Carries a logged write out: every place of the sector's home, and settled.
-    pub fn apply<S: Shelf>(
-        &self,
-        shelf: &mut S,
-        sector: u64,
-        datum: &Sector,
-        parity: &Sector,
-    ) -> Result<(), Refused> {
-        match self.home(sector) {
-            Home::Source => self.write_places(shelf, &self.source, sector, datum, parity)?,
-            Home::Target => self.write_places(shelf, &self.target, sector, datum, parity)?,
-            Home::Backup => self.write_all(shelf, self.slot(sector), datum)?,
+    pub fn apply<S: Shelf>(&self, shelf: &mut S, entry: &Entry) -> Result<(), Refused> {
+        match self.home_layout(entry.sector) {
+            Some(layout) => self.write_places(shelf, layout, entry)?,
+            None => self.write_all(shelf, self.slot(entry.sector), &entry.datum)?,
         }
         self.flush_all(shelf)
     }
 
     // Carries out again the write that stands in the log.
     pub fn redo<S: Shelf>(&self, shelf: &mut S, sector: u64) -> Result<(), Refused> {
-        let mut datum = zeros();
-        let mut parity = zeros();
-        self.read_held(shelf, LOGGED_DATUM_AT, &mut datum)?;
-        self.read_held(shelf, LOGGED_PARITY_AT, &mut parity)?;
-        self.apply(shelf, sector, &datum, &parity)
+        let entry = Entry {
+            sector,
+            datum: self.read_held(shelf, LOGGED_DATUM_AT)?,
+            parity: self.read_held(shelf, LOGGED_PARITY_AT)?,
+        };
+        self.apply(shelf, &entry)
     }
 
     // Writes all copies of a sector and the parity of its group.
@@ -51,13 +47,11 @@ impl<L: Layout> Array<L> {
         &self,
         shelf: &mut S,
         layout: &L,
-        sector: u64,
-        datum: &Sector,
-        parity: &Sector,
+        entry: &Entry,
     ) -> Result<(), Refused> {
-        self.write_copies(shelf, layout, sector, datum)?;
-        if let Some(group) = layout.group(sector) {
-            self.write_place(shelf, layout.parity(group), parity)?;
+        self.write_copies(shelf, layout, entry.sector, &entry.datum)?;
+        if let Some(group) = layout.group(entry.sector) {
+            self.write_place(shelf, layout.parity(group), &entry.parity)?;
         }
         Ok(())
     }

@@ -1,9 +1,9 @@
 // One operation on one member, as a step of a stage. It ends the call where the power is gone or too few members are left.
-ghost use Rattle.std.specs.Prelude.{◌≡◌};
+ghost use Rattle.std.specs.Prelude.{◌≡◌, None};
 ghost use Rattle.answer.specs.declared.Operation.TheVariants.{Read, Write, Flush};
 ghost use Rattle.stage.specs.Cells.{Others};
-ghost use Rattle.stage.specs.Crew.{crew};
-ghost use Rattle.stage.specs.Done.{Bears, FlushedAt, OnCell, ReadAt, WrittenAt};
+ghost use Rattle.stage.specs.Crew.{crew_of};
+ghost use Rattle.stage.specs.Done.{FlushedAt, OnCell, ReadAt, Weighed, WrittenAt};
 ghost use Rattle.stage.specs.Ends.{Stage};
 ghost use Rattle.stage.specs.May.{AtCell, nothing};
 
@@ -11,18 +11,19 @@ use crate::array::Array;
 use crate::operation;
 use answer::{Fault, Operation, Refusal, Refused};
 use layout::Layout;
-use sector::Sector;
-use shelf::{Answer, Shelf};
+use sector::{Sector, zeros};
+use shelf::{Answer, Failure, Shelf};
 
 impl<L: Layout> Array<L> {
-    // Goes on without a member that is gone, if those left are enough.
-    fn bear<S: Shelf>(&self, shelf: &S, fault: Fault) -> Result<(), Refused>
-        ensures { Bears (crew self.now.phase (L.geometry self.now.source) (L.geometry self.now.target)) fault (S.meaning shelf.now) result }
+    // Whether the stage goes on with the member of an operation or, where those left are enough, without it.
+    fn weigh<S: Shelf>(&self, shelf: &S, answer: Answer, fault: Fault) -> Result<bool, Refused>
+        ensures { Weighed (crew_of L.geometry self.now) answer fault (S.meaning shelf.now) result }
     {
-        if self.enough(shelf) {
-            Ok(())
-        } else {
-            Err(Refused::met(Refusal::MembersLost, fault))
+        match answer {
+            Ok(()) | Err(Failure::OutOfRange) => Ok(true),
+            Err(Failure::Off) => Err(Refused::met(Refusal::PowerLost, fault)),
+            Err(Failure::Absent) if self.enough(shelf) => Ok(false),
+            Err(Failure::Absent) => Err(Refused::met(Refusal::MembersLost, fault)),
         }
     }
 
@@ -34,73 +35,59 @@ impl<L: Layout> Array<L> {
         sector: u64,
         content: &Sector,
     ) -> Result<(), Refused>
-        ensures stage { Stage (crew self.now.phase (L.geometry self.now.source) (L.geometry self.now.target)) (AtCell member sector content.now) (OnCell Write member sector) (S.meaning shelf.old) (S.meaning shelf.new) (λ _. WrittenAt member sector content.now (S.meaning shelf.new)) result }
+        ensures stage { Stage (crew_of L.geometry self.now) (AtCell member sector content.now) (OnCell Write member sector) (S.meaning shelf.old) (S.meaning shelf.new) (λ _. WrittenAt member sector content.now (S.meaning shelf.new)) result }
         ensures others { Others member (S.meaning shelf.old) (S.meaning shelf.new) }
     {
-        if !shelf.is_present(member) {
-            return Ok(());
+        if shelf.is_present(member) {
+            let answer = operation::put(shelf, member, sector, content);
+            self.weigh(shelf, answer, fault_at(Operation::Write, member, sector))?;
         }
-        let fault = Fault {
-            operation: Operation::Write,
-            member,
-            sector,
-            row: None,
-        };
-        match operation::put(shelf, member, sector, content) {
-            Answer::Done | Answer::Refused => Ok(()),
-            Answer::Off => Err(Refused::met(Refusal::PowerLost, fault)),
-            Answer::Absent => self.bear(shelf, fault),
-        }
+        Ok(())
     }
 
-    // Reads a sector of a member, and says whether it could.
+    // What a member holds in a sector; None where it is not present.
     pub fn read_at<S: Shelf>(
         &self,
         shelf: &mut S,
         member: u64,
         sector: u64,
-        content: &mut Sector,
-    ) -> Result<bool, Refused>
-        ensures stage { Stage (crew self.now.phase (L.geometry self.now.source) (L.geometry self.now.target)) nothing (OnCell Read member sector) (S.meaning shelf.old) (S.meaning shelf.new) (λ could. ReadAt member sector content.new (S.meaning shelf.new) could) result }
+    ) -> Result<Option<Sector>, Refused>
+        ensures stage { Stage (crew_of L.geometry self.now) nothing (OnCell Read member sector) (S.meaning shelf.old) (S.meaning shelf.new) (λ found. ReadAt member sector (S.meaning shelf.new) found) result }
         ensures others { Others member (S.meaning shelf.old) (S.meaning shelf.new) }
     {
         if !shelf.is_present(member) {
-            return Ok(false);
+            return Ok(None);
         }
-        let fault = Fault {
-            operation: Operation::Read,
-            member,
-            sector,
-            row: None,
-        };
-        match operation::get(shelf, member, sector, content) {
-            Answer::Done | Answer::Refused => Ok(true),
-            Answer::Off => Err(Refused::met(Refusal::PowerLost, fault)),
-            Answer::Absent => {
-                self.bear(shelf, fault)?;
-                Ok(false)
-            }
+        let mut content = zeros();
+        let answer = operation::get(shelf, member, sector, &mut content);
+        if self.weigh(shelf, answer, fault_at(Operation::Read, member, sector))? {
+            Ok(Some(content))
+        } else {
+            Ok(None)
         }
     }
 
     // Flushes a member, if it is present.
     pub fn flush_at<S: Shelf>(&self, shelf: &mut S, member: u64) -> Result<(), Refused>
-        ensures stage { Stage (crew self.now.phase (L.geometry self.now.source) (L.geometry self.now.target)) nothing (OnCell Flush member 0) (S.meaning shelf.old) (S.meaning shelf.new) (λ _. FlushedAt member (S.meaning shelf.new)) result }
+        ensures stage { Stage (crew_of L.geometry self.now) nothing (OnCell Flush member 0) (S.meaning shelf.old) (S.meaning shelf.new) (λ _. FlushedAt member (S.meaning shelf.new)) result }
         ensures others { Others member (S.meaning shelf.old) (S.meaning shelf.new) }
     {
-        if !shelf.is_present(member) {
-            return Ok(());
+        if shelf.is_present(member) {
+            let answer = operation::flush(shelf, member);
+            self.weigh(shelf, answer, fault_at(Operation::Flush, member, 0))?;
         }
-        let fault = Fault {
-            operation: Operation::Flush,
-            member,
-            sector: 0,
-            row: None,
-        };
-        match operation::flush(shelf, member) {
-            Answer::Done | Answer::Refused => Ok(()),
-            Answer::Off => Err(Refused::met(Refusal::PowerLost, fault)),
-            Answer::Absent => self.bear(shelf, fault),
-        }
+        Ok(())
+    }
+}
+
+// An operation on a sector of a member, which is about no row yet.
+fn fault_at(operation: Operation, member: u64, sector: u64) -> Fault
+    ensures { result ≡ record { operation = operation; member = member; sector = sector; row = None } }
+{
+    Fault {
+        operation,
+        member,
+        sector,
+        row: None,
     }
 }

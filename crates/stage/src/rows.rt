@@ -3,31 +3,30 @@ use crate::array::Array;
 use answer::Refused;
 use layout::Layout;
 use layout::place::Owner;
-use overlap::walk::Span;
 use sector::{Sector, fold, zeros};
 use shelf::Shelf;
+use std::ops::Range;
 
 impl<L: Layout> Array<L> {
     // Copies sectors of the source into their backup slots, and settles them.
-    pub fn save<S: Shelf>(&self, shelf: &mut S, span: Span) -> Result<(), Refused> {
-        let mut content = zeros();
-        for sector in span.from..span.to {
-            self.show(shelf, sector, &mut content)?;
+    pub fn save<S: Shelf>(&self, shelf: &mut S, sectors: Range<u64>) -> Result<(), Refused> {
+        for sector in sectors {
+            let content = self.show(shelf, sector)?;
             self.write_all(shelf, self.slot(sector), &content)?;
         }
         self.flush_all(shelf)
     }
 
     // Writes all places of a target row as a fresh placement has them, and settles them.
-    pub fn place_row<S: Shelf>(&self, shelf: &mut S, span: Span) -> Result<(), Refused> {
-        for sector in span.from..span.to {
+    pub fn place_row<S: Shelf>(&self, shelf: &mut S, sectors: Range<u64>) -> Result<(), Refused> {
+        for sector in sectors {
             match self.target.group(sector) {
                 None => self.place_sector(shelf, sector)?,
-                Some(group) => {
-                    if self.target.peer(group, 0) == sector {
-                        self.place_group(shelf, group)?;
-                    }
+                Some(group) if self.target.peer(group, 0) == sector => {
+                    self.place_group(shelf, group)?;
                 }
+                // placed with the sector that leads its group
+                Some(_) => {}
             }
         }
         self.flush_all(shelf)
@@ -35,18 +34,16 @@ impl<L: Layout> Array<L> {
 
     // Writes a sector to its copies in the target.
     fn place_sector<S: Shelf>(&self, shelf: &mut S, sector: u64) -> Result<(), Refused> {
-        let mut content = zeros();
-        self.content_ahead(shelf, sector, &mut content)?;
+        let content = self.content_ahead(shelf, sector)?;
         self.write_copies(shelf, &self.target, sector, &content)
     }
 
     // Writes the sectors of a group and their parity to the target.
     fn place_group<S: Shelf>(&self, shelf: &mut S, group: u64) -> Result<(), Refused> {
-        let mut content = zeros();
         let mut parity = zeros();
         for index in 0..self.target.peers(group) {
             let sector = self.target.peer(group, index);
-            self.content_ahead(shelf, sector, &mut content)?;
+            let content = self.content_ahead(shelf, sector)?;
             fold(&mut parity, &content);
             self.write_copies(shelf, &self.target, sector, &content)?;
         }
@@ -54,17 +51,12 @@ impl<L: Layout> Array<L> {
     }
 
     // What a target row is to hold of a sector: its content, and zeros from the size on.
-    fn content_ahead<S: Shelf>(
-        &self,
-        shelf: &mut S,
-        sector: u64,
-        content: &mut Sector,
-    ) -> Result<(), Refused> {
+    fn content_ahead<S: Shelf>(&self, shelf: &mut S, sector: u64) -> Result<Sector, Refused> {
         if sector < self.head.size {
-            return self.show(shelf, sector, content);
+            self.show(shelf, sector)
+        } else {
+            Ok(zeros())
         }
-        *content = zeros();
-        Ok(())
     }
 
     // Zeroes every place of the source that has an owner, and settles it.

@@ -2,14 +2,13 @@
 ghost use Rattle.std.specs.Prelude.{◌≡◌, ◌≤◌, IfOk, if◌then◌else◌, Some, None, OnOk};
 ghost use Rattle.answer.specs.declared.Refusal.TheVariants.{NumbersSpent};
 ghost use Rattle.overlap.specs.Needs.{distance_of};
-ghost use Rattle.model.specs.Knowing.{volume};
-ghost use Rattle.model.specs.Opening.{head_fits, head_verdict, logged_fits, names_layouts_lem, names_target_lem, progress_borne, progress_fits, same_label, walk_fits};
+ghost use Rattle.model.specs.Knowing.{volume_on};
+ghost use Rattle.model.specs.Opening.{head_fits, head_verdict, logged_fits, names_layouts_lem, names_target_lem, progress_borne, progress_fits, walk_fits};
 ghost use Rattle.model.specs.Verdicts.{Judged, access_verdict, admission, begin_verdict, copy_verdict, create_verdict, finish_verdict, fits as room, in_limits, keep_verdict, read_verdict, settle_verdict, spent, write_verdict};
 
 use crate::Volume;
 use answer::Refusal;
 use head::{Head, MOST_BACKUP, Progress, SLOTS_AT};
-use layout::label::Label;
 use layout::{Layout, has_true_label};
 use model::call::Call;
 use overlap::walk::Walk;
@@ -42,7 +41,7 @@ pub fn fits<S: Shelf, L: Layout>(shelf: &S, layout: &L, backup: u32, size: u64) 
 impl<S: Shelf, L: Layout> Volume<S, L> {
     // Power, members, and whether the call is one for the phase.
     fn admit(&self, call: Call) -> Result<(), Refusal>
-        ensures { Judged (admission call (volume self.now.array.phase (L.geometry self.now.array.source) (L.geometry self.now.array.target) self.now.array.head self.now.hand) (S.meaning self.now.shelf)) result }
+        ensures { Judged (admission call (volume_on L.geometry self.now.array self.now.hand) (S.meaning self.now.shelf)) result }
     {
         if let Phase::Shut(refusal) = self.array.phase {
             return Err(refusal);
@@ -67,7 +66,7 @@ impl<S: Shelf, L: Layout> Volume<S, L> {
 
     // Whether so many checkpoints can still be numbered.
     fn numbered(&self, checkpoints: u64) -> Result<(), Refusal>
-        ensures { Judged (if spent (volume self.now.array.phase (L.geometry self.now.array.source) (L.geometry self.now.array.target) self.now.array.head self.now.hand) checkpoints then Some NumbersSpent else None) result }
+        ensures { Judged (if spent (volume_on L.geometry self.now.array self.now.hand) checkpoints then Some NumbersSpent else None) result }
     {
         if self.array.head.numbers_left() < checkpoints {
             return Err(Refusal::NumbersSpent);
@@ -98,7 +97,7 @@ impl<S: Shelf, L: Layout> Volume<S, L> {
 
     // A read or a write of a sector, by a buffer of some length.
     fn judge_access(&self, sector: u64, length: usize) -> Result<(), Refusal>
-        ensures verdict { Judged (access_verdict (volume self.now.array.phase (L.geometry self.now.array.source) (L.geometry self.now.array.target) self.now.array.head self.now.hand) sector length) result }
+        ensures verdict { Judged (access_verdict (volume_on L.geometry self.now.array self.now.hand) sector length) result }
         ensures long { OnOk result (length ≡ 512) }
     {
         if length != SECTOR {
@@ -111,7 +110,7 @@ impl<S: Shelf, L: Layout> Volume<S, L> {
     }
 
     pub(crate) fn judge_read(&self, sector: u64, length: usize) -> Result<(), Refusal>
-        ensures verdict { Judged (read_verdict (volume self.now.array.phase (L.geometry self.now.array.source) (L.geometry self.now.array.target) self.now.array.head self.now.hand) (S.meaning self.now.shelf) sector length) result }
+        ensures verdict { Judged (read_verdict (volume_on L.geometry self.now.array self.now.hand) (S.meaning self.now.shelf) sector length) result }
         ensures long { OnOk result (length ≡ 512) }
     {
         self.admit(Call::Read)?;
@@ -119,21 +118,19 @@ impl<S: Shelf, L: Layout> Volume<S, L> {
     }
 
     pub(crate) fn judge_write(&self, sector: u64, length: usize) -> Result<(), Refusal>
-        ensures { Judged (write_verdict (volume self.now.array.phase (L.geometry self.now.array.source) (L.geometry self.now.array.target) self.now.array.head self.now.hand) (S.meaning self.now.shelf) sector length) result }
+        ensures { Judged (write_verdict (volume_on L.geometry self.now.array self.now.hand) (S.meaning self.now.shelf) sector length) result }
     {
         self.admit(Call::Write)?;
         self.judge_access(sector, length)?;
-        if let Some(row) = self.hand {
-            if sector / self.array.target.row_len() == row {
-                return Err(Refusal::RowInHand);
-            }
+        if self.hand == Some(sector / self.array.target.row_len()) {
+            return Err(Refusal::RowInHand);
         }
         self.numbered(2)
     }
 
     // Answers the overlap distance where begin may go on.
     pub(crate) fn judge_begin(&self) -> Result<u64, Refusal>
-        ensures verdict { Judged (begin_verdict (L.named self.now.array.target) (volume self.now.array.phase (L.geometry self.now.array.source) (L.geometry self.now.array.target) self.now.array.head self.now.hand) (S.meaning self.now.shelf)) result }
+        ensures verdict { Judged (begin_verdict (L.named self.now.array.target) (volume_on L.geometry self.now.array self.now.hand) (S.meaning self.now.shelf)) result }
         ensures distance { IfOk result (λ d. d ≡ distance_of (L.geometry self.now.array.source) (L.geometry self.now.array.target) self.now.array.head.size) }
     {
         self.admit(Call::Begin)?;
@@ -151,7 +148,7 @@ impl<S: Shelf, L: Layout> Volume<S, L> {
     }
 
     pub(crate) fn judge_keep(&self) -> Result<(), Refusal>
-        ensures { Judged (keep_verdict (volume self.now.array.phase (L.geometry self.now.array.source) (L.geometry self.now.array.target) self.now.array.head self.now.hand) (S.meaning self.now.shelf)) result }
+        ensures { Judged (keep_verdict (volume_on L.geometry self.now.array self.now.hand) (S.meaning self.now.shelf)) result }
     {
         self.admit(Call::Keep)?;
         let walk = self.array.walk();
@@ -165,7 +162,7 @@ impl<S: Shelf, L: Layout> Volume<S, L> {
     }
 
     pub(crate) fn judge_copy(&self) -> Result<(), Refusal>
-        ensures { Judged (copy_verdict (volume self.now.array.phase (L.geometry self.now.array.source) (L.geometry self.now.array.target) self.now.array.head self.now.hand) (S.meaning self.now.shelf)) result }
+        ensures { Judged (copy_verdict (volume_on L.geometry self.now.array self.now.hand) (S.meaning self.now.shelf)) result }
     {
         self.admit(Call::Copy)?;
         if self.hand.is_some() {
@@ -188,7 +185,7 @@ impl<S: Shelf, L: Layout> Volume<S, L> {
     }
 
     pub(crate) fn judge_settle(&self, row: u64) -> Result<(), Refusal>
-        ensures { Judged (settle_verdict (volume self.now.array.phase (L.geometry self.now.array.source) (L.geometry self.now.array.target) self.now.array.head self.now.hand) (S.meaning self.now.shelf) row) result }
+        ensures { Judged (settle_verdict (volume_on L.geometry self.now.array self.now.hand) (S.meaning self.now.shelf) row) result }
     {
         self.admit(Call::Settle)?;
         if self.hand != Some(row) {
@@ -198,7 +195,7 @@ impl<S: Shelf, L: Layout> Volume<S, L> {
     }
 
     pub(crate) fn judge_finish(&self) -> Result<(), Refusal>
-        ensures { Judged (finish_verdict (volume self.now.array.phase (L.geometry self.now.array.source) (L.geometry self.now.array.target) self.now.array.head self.now.hand) (S.meaning self.now.shelf)) result }
+        ensures { Judged (finish_verdict (volume_on L.geometry self.now.array self.now.hand) (S.meaning self.now.shelf)) result }
     {
         self.admit(Call::Finish)?;
         if self.array.walk().settled < self.array.target.rows() {
@@ -229,7 +226,7 @@ impl<S: Shelf, L: Layout> Volume<S, L> {
     fn names_layouts(&self, head: &Head) -> bool
         ensures { result ≡ names_layouts_lem head.now (L.named self.now.array.source) (L.named self.now.array.target) }
     {
-        is_same(&head.source, &self.array.source.label()) && self.names_target(head.progress)
+        head.source == self.array.source.label() && self.names_target(head.progress)
     }
 
     // An idle head names the source only.
@@ -238,7 +235,7 @@ impl<S: Shelf, L: Layout> Volume<S, L> {
     {
         match progress {
             Progress::Idle => true,
-            Progress::Moving { target, .. } => is_same(&target, &self.array.target.label()),
+            Progress::Moving { target, .. } => target == self.array.target.label(),
         }
     }
 
@@ -299,12 +296,4 @@ fn is_of_volume(armed: Option<u64>, size: u64) -> bool
         None => true,
         Some(sector) => sector < size,
     }
-}
-
-fn is_same(one: &Label, other: &Label) -> bool
-    ensures { result ≡ same_label one.now other.now }
-{
-    (one.kind == other.kind && (one.members == other.members && one.copies == other.copies))
-        && (one.reserved == other.reserved
-            && (one.chunk == other.chunk && one.depth == other.depth))
 }

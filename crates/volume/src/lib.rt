@@ -6,7 +6,7 @@ ghost use Rattle.std.specs.Prelude.{◌≡◌, length, IfOk, OnErr, OnOk};
 ghost use Rattle.stage.specs.declared.phase.Phase.TheVariants.{Before};
 ghost use Rattle.head.specs.Heads.{kept_of, settled_of};
 ghost use Rattle.overlap.specs.Needs.{distance_of};
-ghost use Rattle.model.specs.Knowing.{volume};
+ghost use Rattle.model.specs.Knowing.{volume_on};
 ghost use Rattle.model.specs.Verdicts.{HandedBack, InUse, RefusedBy, ShutBy, ShutsBy, begin_verdict, copy_verdict, create_verdict, emptied, finish_verdict, is_hand, keep_verdict, read_verdict, settle_verdict, write_verdict};
 
 pub mod grant;
@@ -19,8 +19,9 @@ use head::{HEAD_AT, Head, Progress, leading};
 use layout::Layout;
 use layout::label::Label;
 use sector::{copied, zeros};
-use shelf::{Answer, Shelf};
+use shelf::{Failure, Shelf};
 use stage::array::Array;
+use stage::logged::Entry;
 use stage::phase::Phase;
 
 // A shelf with the arrays on it. The row in hand is the one that was copied and is not settled or handed back yet.
@@ -106,14 +107,14 @@ impl<S: Shelf, L: Layout> Volume<S, L> {
     pub fn settled(&self) -> u64
         ensures { result ≡ settled_of self.now.array.head.progress }
     {
-        self.array.walk().settled
+        self.array.head.progress.settled()
     }
 
     // How many source rows are kept; 0 where the volume is not moving.
     pub fn kept(&self) -> u64
         ensures { result ≡ kept_of self.now.array.head.progress }
     {
-        self.array.walk().kept
+        self.array.head.progress.kept()
     }
 
     // The row in hand.
@@ -125,34 +126,36 @@ impl<S: Shelf, L: Layout> Volume<S, L> {
 
     // Reads a sector; where it is refused the buffer stays as it was.
     pub fn read(&mut self, sector: u64, buffer: &mut [u8]) -> Result<(), Refused>
-        ensures verdict { RefusedBy (read_verdict (volume self.old.array.phase (L.geometry self.old.array.source) (L.geometry self.old.array.target) self.old.array.head self.old.hand) (S.meaning self.old.shelf) sector (length buffer.old)) (self.new ≡ self.old) result }
+        ensures verdict { RefusedBy (read_verdict (volume_on L.geometry self.old.array self.old.hand) (S.meaning self.old.shelf) sector (length buffer.old)) (self.new ≡ self.old) result }
         ensures buffer { OnErr result (buffer.new ≡ buffer.old) }
     {
         self.judge_read(sector, buffer.len())?;
-        let mut content = zeros();
-        self.array.show(&mut self.shelf, sector, &mut content)?;
+        let content = self.array.show(&mut self.shelf, sector)?;
         buffer.copy_from_slice(&content);
         Ok(())
     }
 
     // Writes a sector: into the log, then, with the head armed for it, to every place of its home.
     pub fn write(&mut self, sector: u64, buffer: &[u8]) -> Result<(), Refused>
-        ensures { RefusedBy (write_verdict (volume self.old.array.phase (L.geometry self.old.array.source) (L.geometry self.old.array.target) self.old.array.head self.old.hand) (S.meaning self.old.shelf) sector (length buffer.now)) (self.new ≡ self.old) result }
+        ensures { RefusedBy (write_verdict (volume_on L.geometry self.old.array self.old.hand) (S.meaning self.old.shelf) sector (length buffer.now)) (self.new ≡ self.old) result }
     {
         self.judge_write(sector, buffer.len())?;
-        let Some(datum) = copied(buffer) else {
-            return Err(Refusal::BufferLength.into());
-        };
+        let datum = copied(buffer).ok_or(Refusal::BufferLength)?;
         let parity = self.array.parity_after(&mut self.shelf, sector, &datum)?;
-        self.array.log(&mut self.shelf, &datum, &parity)?;
+        let entry = Entry {
+            sector,
+            datum,
+            parity,
+        };
+        self.array.log(&mut self.shelf, &entry)?;
         self.checkpoint_armed(Some(sector))?;
-        self.array.apply(&mut self.shelf, sector, &datum, &parity)?;
+        self.array.apply(&mut self.shelf, &entry)?;
         self.checkpoint_armed(None)
     }
 
     // Starts the move to the target, and answers the overlap distance.
     pub fn begin(&mut self) -> Result<u64, Refused>
-        ensures verdict { RefusedBy (begin_verdict (L.named self.old.array.target) (volume self.old.array.phase (L.geometry self.old.array.source) (L.geometry self.old.array.target) self.old.array.head self.old.hand) (S.meaning self.old.shelf)) (self.new ≡ self.old) result }
+        ensures verdict { RefusedBy (begin_verdict (L.named self.old.array.target) (volume_on L.geometry self.old.array self.old.hand) (S.meaning self.old.shelf)) (self.new ≡ self.old) result }
         ensures distance { IfOk result (λ d. d ≡ distance_of (L.geometry self.old.array.source) (L.geometry self.old.array.target) self.old.array.head.size) }
     {
         let distance = self.judge_begin()?;
@@ -163,45 +166,38 @@ impl<S: Shelf, L: Layout> Volume<S, L> {
 
     // Saves the next source row into the backup slots.
     pub fn keep(&mut self) -> Result<(), Refused>
-        ensures { RefusedBy (keep_verdict (volume self.old.array.phase (L.geometry self.old.array.source) (L.geometry self.old.array.target) self.old.array.head self.old.hand) (S.meaning self.old.shelf)) (self.new ≡ self.old) result }
+        ensures { RefusedBy (keep_verdict (volume_on L.geometry self.old.array self.old.hand) (S.meaning self.old.shelf)) (self.new ≡ self.old) result }
     {
         self.judge_keep()?;
         let row = self.kept();
-        match self.keep_row() {
-            Ok(()) => Ok(()),
-            Err(refused) => Err(refused.in_row(row)),
-        }
+        self.keep_row().map_err(|refused| refused.in_row(row))
     }
 
     // Writes the next target row, and grants to settle it.
     pub fn copy(&mut self) -> Result<Grant, Refused>
-        ensures { RefusedBy (copy_verdict (volume self.old.array.phase (L.geometry self.old.array.source) (L.geometry self.old.array.target) self.old.array.head self.old.hand) (S.meaning self.old.shelf)) (self.new ≡ self.old) result }
+        ensures { RefusedBy (copy_verdict (volume_on L.geometry self.old.array self.old.hand) (S.meaning self.old.shelf)) (self.new ≡ self.old) result }
     {
         self.judge_copy()?;
         let walk = self.array.walk();
         let row = walk.settled;
-        match self.array.place_row(&mut self.shelf, walk.target_row(row)) {
-            Ok(()) => {
-                self.hand = Some(row);
-                Ok(Grant::of(row))
-            }
-            Err(refused) => Err(refused.in_row(row)),
-        }
+        self.array
+            .place_row(&mut self.shelf, walk.target_row(row))
+            .map_err(|refused| refused.in_row(row))?;
+        self.hand = Some(row);
+        Ok(Grant::of(row))
     }
 
     // Makes the granted row the home of its sectors. A grant of the row in hand empties the hand in any case.
     pub fn settle(&mut self, grant: Grant) -> Result<(), Refused>
-        ensures { RefusedBy (settle_verdict (volume self.old.array.phase (L.geometry self.old.array.source) (L.geometry self.old.array.target) self.old.array.head self.old.hand) (S.meaning self.old.shelf) grant.row) ((self.new.array ≡ self.old.array) × ((self.new.shelf ≡ self.old.shelf) × (self.new.hand ≡ emptied self.old.hand grant.row))) result }
+        ensures { RefusedBy (settle_verdict (volume_on L.geometry self.old.array self.old.hand) (S.meaning self.old.shelf) grant.row) ((self.new.array ≡ self.old.array) × ((self.new.shelf ≡ self.old.shelf) × (self.new.hand ≡ emptied self.old.hand grant.row))) result }
     {
         let row = grant.spend();
         let verdict = self.judge_settle(row);
         self.empty_hand(row);
         verdict?;
         let walk = self.array.walk();
-        match self.checkpoint_progress(walk.settled.saturating_add(1), walk.kept) {
-            Ok(()) => Ok(()),
-            Err(refused) => Err(refused.in_row(row)),
-        }
+        self.checkpoint_progress(walk.settled.saturating_add(1), walk.kept)
+            .map_err(|refused| refused.in_row(row))
     }
 
     // Gives a grant back; its row is copied again later.
@@ -220,7 +216,7 @@ impl<S: Shelf, L: Layout> Volume<S, L> {
 
     // Ends the move: the target is the volume's layout from here on.
     pub fn finish(&mut self) -> Result<Finished, Refused>
-        ensures { RefusedBy (finish_verdict (volume self.old.array.phase (L.geometry self.old.array.source) (L.geometry self.old.array.target) self.old.array.head self.old.hand) (S.meaning self.old.shelf)) (self.new ≡ self.old) result }
+        ensures { RefusedBy (finish_verdict (volume_on L.geometry self.old.array self.old.hand) (S.meaning self.old.shelf)) (self.new ≡ self.old) result }
     {
         self.judge_finish()?;
         let counts = Finished {
@@ -321,10 +317,7 @@ impl<S: Shelf, L: Layout> Volume<S, L> {
         for member in 0..self.shelf.members() {
             found = leading(found, self.head_of(member)?);
         }
-        match found {
-            Some(head) => Ok(head),
-            None => Err(Refusal::NoHead.into()),
-        }
+        Ok(found.ok_or(Refusal::NoHead)?)
     }
 
     // The head that a member holds, if it is there and has one.
@@ -334,9 +327,9 @@ impl<S: Shelf, L: Layout> Volume<S, L> {
         }
         let mut bytes = zeros();
         match self.shelf.read(member, HEAD_AT, &mut bytes) {
-            Answer::Done => Ok(Head::decode(&bytes)),
-            Answer::Absent | Answer::Refused => Ok(None),
-            Answer::Off => Err(power_lost(Operation::Read, member)),
+            Ok(()) => Ok(Head::decode(&bytes)),
+            Err(Failure::Absent | Failure::OutOfRange) => Ok(None),
+            Err(Failure::Off) => Err(power_lost(Operation::Read, member)),
         }
     }
 

@@ -1,9 +1,9 @@
-use Rattle.stage.specs.Crew.{crew}
+use Rattle.stage.specs.Crew.{crew_of}
 use Rattle.stage.specs.May.{nothing}
 use Rattle.stage.proofs.Loops.{Nobody, Upto}
 use Rattle.stage.proofs.array.Array.read_any.Given as goal
 
 abbrev pub invariant-loop-member : goal.invariant-loop-member
 invariant-loop-member g l =
-    Upto (crew l.self.phase (g.L.Layout.geometry l.self.source) (g.L.Layout.geometry l.self.target)) nothing Nobody
+    Upto (crew_of g.L.Layout.geometry l.self) nothing Nobody
     (g.S.Shelf.meaning l.initial.shelf) l.member (g.S.Shelf.meaning l.shelf)
