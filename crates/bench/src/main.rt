@@ -2,86 +2,74 @@
 #![tactic(auto)]
 
 mod plain;
+mod rounds;
 
 use anyhow::anyhow;
 use kinds::stock::Stock;
 use layout::Layout;
+use layout::kind::Kind;
 use layout::label::Label;
 use layout::place::Owner;
 use overlap::distance;
+use rounds::summed;
 use std::env;
 use std::time::Instant;
 
 const ROUNDS: u64 = 2_000_000;
 
-fn laid(kind: u8, members: u8, copies: u8, chunk: u32, depth: u64) -> anyhow::Result<Stock> {
-    let label = Label {
-        kind,
-        members,
-        copies,
-        reserved: 0,
-        chunk,
-        depth,
-    };
-    match Stock::from_label(&label) {
-        Ok(layout) => Ok(layout),
-        Err(_) => Err(anyhow!("a label out of limits")),
-    }
+fn laid(label: Label) -> anyhow::Result<Stock> {
+    Stock::from_label(&label).map_err(|_| anyhow!("a label out of limits"))
 }
 
-// Asks for a place of each of many sectors; the sum keeps the compiler from leaving the work out.
 fn places(layout: &Stock) -> u64 {
-    let capacity = layout.capacity();
-    let mut sum: u64 = 0;
-    let mut sector: u64 = 0;
-    for _ in 0..ROUNDS {
+    summed(ROUNDS, layout.capacity(), |sector| {
         let (member, offset) = layout.place(sector, 0);
-        sum = sum.wrapping_add(member).wrapping_add(offset);
-        sector = sector.wrapping_add(4_099);
-        if sector >= capacity {
-            sector = 0;
-        }
-    }
-    sum
+        member.wrapping_add(offset)
+    })
 }
 
 fn owners(layout: &Stock) -> u64 {
-    let depth = layout.depth();
-    let mut sum: u64 = 0;
-    let mut offset: u64 = 0;
-    for _ in 0..ROUNDS {
-        sum = sum.wrapping_add(match layout.owner((1, offset)) {
+    summed(
+        ROUNDS,
+        layout.depth(),
+        |offset| match layout.owner((1, offset)) {
             Owner::Datum { sector, copy } => sector.wrapping_add(copy),
             Owner::Parity { group } => group,
             Owner::Nobody => 1,
-        });
-        offset = offset.wrapping_add(4_099);
-        if offset >= depth {
-            offset = 0;
-        }
-    }
-    sum
+        },
+    )
 }
 
-// Picoseconds a round.
-fn each(rt: &HostRuntime, start: &Instant, rounds: u64) -> anyhow::Result<u64> {
+// how long a round took, and the sum of what was found
+#[derive(Clone, Copy)]
+struct Timing {
+    picos: u64,
+    sum: u64,
+}
+
+// Times work of so many rounds.
+fn timed<F: FnOnce() -> u64>(rt: &HostRuntime, rounds: u64, work: F) -> anyhow::Result<Timing>
+    requires { F.IsAlwaysCallable work }
+{
+    let start = Instant::now(rt)?;
+    let sum = work();
     let nanos = start.elapsed(rt)?.as_nanos();
     let picos = nanos.saturating_mul(1000) / u128::from(rounds.max(1));
-    match u64::try_from(picos) {
-        Ok(n) => Ok(n),
-        Err(_) => Ok(u64::MAX),
-    }
+    Ok(Timing {
+        picos: u64::try_from(picos).unwrap_or(u64::MAX),
+        sum,
+    })
 }
 
 fn measure(rt: &HostRuntime, name: &str, layout: &Stock) -> anyhow::Result<()> {
-    let start = Instant::now(rt)?;
-    let a = places(layout);
-    let place = each(rt, &start, ROUNDS)?;
-    let start = Instant::now(rt)?;
-    let b = owners(layout);
-    let owner = each(rt, &start, ROUNDS)?;
-    let sum = a.wrapping_add(b);
-    println!(rt; "{name}: place {place} ps, owner {owner} ps ({sum})")?;
+    let place = timed(rt, ROUNDS, move || places(layout))?;
+    let owner = timed(rt, ROUNDS, move || owners(layout))?;
+    println!(rt;
+        "{name}: place {} ps, owner {} ps ({})",
+        place.picos,
+        owner.picos,
+        place.sum.wrapping_add(owner.sum)
+    )?;
     Ok(())
 }
 
@@ -90,43 +78,48 @@ fn baseline(rt: &HostRuntime, layout: &Stock) -> anyhow::Result<()> {
     let members = layout.members();
     let chunk = u64::from(layout.label().chunk);
     let depth = layout.depth();
-    let start = Instant::now(rt)?;
-    let a = plain::striped_places(members, chunk, depth, ROUNDS);
-    let striped = each(rt, &start, ROUNDS)?;
-    let start = Instant::now(rt)?;
-    let b = plain::left_places(members, chunk, depth, ROUNDS);
-    let left = each(rt, &start, ROUNDS)?;
-    let sum = a.wrapping_add(b);
-    println!(rt; "plain loop: striped place {striped} ps, left-symmetric place {left} ps ({sum})")?;
+    let striped = timed(rt, ROUNDS, || {
+        plain::striped_places(members, chunk, depth, ROUNDS).unwrap_or(0)
+    })?;
+    let left = timed(rt, ROUNDS, || {
+        plain::left_places(members, chunk, depth, ROUNDS).unwrap_or(0)
+    })?;
+    println!(rt;
+        "plain loop: striped place {} ps, left-symmetric place {} ps ({})",
+        striped.picos,
+        left.picos,
+        striped.sum.wrapping_add(left.sum)
+    )?;
     Ok(())
 }
 
 fn measure_distance(rt: &HostRuntime) -> anyhow::Result<()> {
-    let source = laid(2, 3, 1, 128, 1 << 17)?;
-    let target = laid(2, 4, 1, 128, 1 << 17)?;
-    let start = Instant::now(rt)?;
-    let found = distance(&source, &target, source.capacity());
+    let source = laid(Label::stock(Kind::LeftSymmetric, 3, 1, 128, 1 << 17))?;
+    let target = laid(Label::stock(Kind::LeftSymmetric, 4, 1, 128, 1 << 17))?;
     let target_places = target.members().saturating_mul(target.depth());
-    let took = each(rt, &start, target_places)?;
-    println!(rt; "distance {found} of left-symmetric 3 to 4: {took} ps a target place")?;
+    let found = timed(rt, target_places, || {
+        distance(&source, &target, source.capacity())
+    })?;
+    println!(rt;
+        "distance {} of left-symmetric 3 to 4: {} ps a target place",
+        found.sum, found.picos
+    )?;
     Ok(())
 }
 
 fn measure_all(rt: &HostRuntime) -> anyhow::Result<()> {
-    measure(rt, "striped", &laid(1, 4, 1, 128, 1 << 20)?)?;
-    measure(rt, "left-symmetric", &laid(2, 4, 1, 128, 1 << 20)?)?;
-    measure(rt, "near", &laid(3, 4, 2, 128, 1 << 20)?)?;
-    measure(rt, "far", &laid(4, 4, 2, 128, 1 << 20)?)?;
-    baseline(rt, &laid(1, 4, 1, 128, 1 << 20)?)?;
+    let stock = |kind, copies| laid(Label::stock(kind, 4, copies, 128, 1 << 20));
+    let striped = stock(Kind::Striped, 1)?;
+    measure(rt, "striped", &striped)?;
+    measure(rt, "left-symmetric", &stock(Kind::LeftSymmetric, 1)?)?;
+    measure(rt, "near", &stock(Kind::Near, 2)?)?;
+    measure(rt, "far", &stock(Kind::Far, 2)?)?;
+    baseline(rt, &striped)?;
     measure_distance(rt)
 }
 
 fn main(rt: HostRuntime) -> anyhow::Result<()> {
-    let mut timed = false;
-    for word in env::args(&rt)? {
-        timed = timed || word.as_str() == "time";
-    }
-    if timed {
+    if env::args(&rt)?.any(|word| word.as_str() == "time") {
         return measure_all(&rt);
     }
     println!(rt; "give the word time to measure places, owners and the distance")?;

@@ -1,89 +1,83 @@
 // The power goes at each operation of a call in turn; what the next open shows is the volume from before the call or after it.
 use crate::setup::{
-    begin, filled, finish, keep, laid, lose, number, pattern, put, settle_next, shows, trial,
-    walk_on, wider, wrong,
+    Ends, answered, far, lose, near, parity, put, settle_next, shows, striped, trial, walk_on,
+    wider, wrong_beside,
 };
-use answer::Refused;
+use answer::{Fault, Operation, Refusal, Refused};
 use kinds::stock::Stock;
 use layout::Layout;
-use shelf::Shelf;
 use shelf::trial::TrialShelf;
-use std::alloc::{AllocError, Global};
+use std::alloc::Global;
 use std::process::Abort;
 use std::test::Fail;
 use volume::Volume;
 
 type Disk = Volume<TrialShelf, Stock>;
 
+// when the power goes, in operations from now, and which unsettled sectors then survive
+#[derive(Clone, Copy)]
+struct Cut {
+    fuse: u32,
+    choice: u32,
+}
+
+impl Cut {
+    // Sets the cut for the calls from here on.
+    fn set(self, volume: &mut Disk) {
+        let shelf = volume.shelf_mut();
+        shelf.set_fuse(self.fuse);
+        shelf.set_choice(self.choice);
+    }
+}
+
 const CHOICES: [u32; 3] = [0, 0xffff_ffff, 0x5555_5555];
 
 // more operations than any call takes here
 const ENOUGH: u32 = 200;
 
+// what a cut write leaves: whether it was granted, whether the next open shows it, and how many sectors are wrong
 #[derive(Clone, Copy)]
-enum Step {
-    Write,
-    Keep,
-    // a copy, and then the settle of its row
-    Settle,
-    Finish,
+struct Torn {
+    granted: bool,
+    is_new: bool,
+    wrong: usize,
 }
 
-fn take(volume: &mut Disk, step: Step) -> Result<(), Refused> {
-    match step {
-        Step::Write => volume.write(3, &pattern(3, 3)),
-        Step::Keep => volume.keep(),
-        Step::Settle => settle_next(volume),
-        Step::Finish => match volume.finish() {
-            Ok(_) => Ok(()),
-            Err(refused) => Err(refused),
-        },
-    }
-}
-
-// Sets the cut for the calls from here on.
-fn set_cut(volume: &mut Disk, fuse: u32, choice: u32) {
-    let shelf = volume.shelf_mut();
-    shelf.set_fuse(fuse);
-    shelf.set_choice(choice);
-}
-
-// Cuts a write of sector 1 and opens again. Answers whether the write was granted, whether the sector shows it, and how many
-// sectors are wrong, before a member is lost and after, where the layout bears that.
-fn cut_write(
-    heap: Global,
-    layout: Stock,
-    fuse: u32,
-    choice: u32,
-) -> Result<(bool, bool, u64), AllocError> {
-    let mut volume = filled(trial(heap, 3, 6)?, layout, layout, 1, 2);
-    set_cut(&mut volume, fuse, choice);
-    let granted = put(&mut volume, 1, 2) == 0;
-    let (mut opened, _) = Volume::open(volume.into_shelf(), layout, layout);
+// Cuts a write of sector 1 and opens again. The wrong sectors are counted before a member is lost and after, where the layout
+// bears that.
+fn cut_write(heap: Global, ends: Ends, cut: Cut) -> Result<Torn, Fail> {
+    let mut volume = ends.filled(trial(heap, 3, 6)?, 1, 2)?;
+    cut.set(&mut volume);
+    let granted = put(&mut volume, 1, 2).is_ok();
+    let (mut opened, _) = ends.open(volume.into_shelf());
     let is_new = shows(&mut opened, 1, 2);
     let version = if is_new { 2 } else { 1 };
-    let mut count = wrong(&mut opened, 1, version);
-    if layout.loss() > 0 {
-        lose(&mut opened, u64::from(fuse % 3));
-        count = count.saturating_add(wrong(&mut opened, 1, version));
+    let mut wrong = wrong_beside(&mut opened, 1, version);
+    if ends.source.loss() > 0 {
+        lose(&mut opened, u64::from(cut.fuse % 3))?;
+        wrong = wrong.saturating_add(wrong_beside(&mut opened, 1, version));
     }
-    Ok((granted, is_new, count))
+    Ok(Torn {
+        granted,
+        is_new,
+        wrong,
+    })
 }
 
 // Cuts the write everywhere. Whether no sector is wrong, some cut shows the old content, and all from some cut on, and before the
 // write is granted, the new one.
-fn bears_cuts(heap: Global, layout: Stock, choice: u32) -> Result<bool, AllocError> {
-    let mut first_new = ENOUGH;
+fn bears_cuts(heap: Global, ends: Ends, choice: u32) -> Result<bool, Fail> {
+    let mut first_new = None;
     for fuse in 0..ENOUGH {
-        let (granted, is_new, count) = cut_write(heap, layout, fuse, choice)?;
-        if count > 0 || (first_new < ENOUGH && !is_new) {
+        let torn = cut_write(heap, ends, Cut { fuse, choice })?;
+        if torn.wrong > 0 || (first_new.is_some() && !torn.is_new) {
             return Ok(false);
         }
-        if is_new {
-            first_new = first_new.min(fuse);
+        if torn.is_new {
+            first_new = first_new.or(Some(fuse));
         }
-        if granted {
-            return Ok(first_new > 0 && first_new < fuse);
+        if torn.granted {
+            return Ok(first_new.is_some_and(|first| 0 < first && first < fuse));
         }
     }
     Ok(false)
@@ -91,88 +85,136 @@ fn bears_cuts(heap: Global, layout: Stock, choice: u32) -> Result<bool, AllocErr
 
 #[test]
 fn torn_writes(rt: HostRuntime) -> Result<(), Fail> {
-    for &(kind, copies) in [(1, 1), (2, 1), (3, 2), (4, 2)].iter() {
-        let layout = laid(kind, 3, copies, 1, 2)?;
-        for &choice in CHOICES.iter() {
-            assert!(rt; bears_cuts(rt.alloc(), layout, choice)?);
+    for label in [
+        striped(3, 1, 2),
+        parity(3, 1, 2),
+        near(3, 2, 1, 2),
+        far(3, 2, 1, 2),
+    ] {
+        let ends = Ends::still(label)?;
+        for choice in CHOICES {
+            assert!(rt; bears_cuts(rt.alloc(), ends, choice)?);
         }
     }
     Ok(())
 }
 
-// The move from 3 members to 4 of 8 sectors with 4 slots, with so many rows settled, one row more kept, and sector 3 in version 2.
-fn under_way(heap: Global, source: Stock, target: Stock, rows: u64) -> Result<Disk, AllocError> {
-    let mut volume = filled(trial(heap, 4, 11)?, source, target, 4, 8);
-    begin(&mut volume);
-    walk_on(&mut volume, rows);
-    keep(&mut volume);
-    put(&mut volume, 3, 2);
+// The move from 3 members to 4 of 8 sectors with 4 slots, with so many rows settled, one row more kept where there is one, and
+// sector 3 in version 2.
+fn under_way(heap: Global, ends: Ends, rows: u64) -> Result<Disk, Fail> {
+    let mut volume = ends.filled(trial(heap, 4, 11)?, 4, 8)?;
+    volume.begin()?;
+    walk_on(&mut volume, rows)?;
+    if volume.kept() < ends.source.rows() {
+        volume.keep()?;
+    }
+    put(&mut volume, 3, 2)?;
     Ok(volume)
 }
 
+// The steps that are cut. A settle is of a row that was copied before.
+fn rewrite(volume: &mut Disk) -> Result<(), Refused> {
+    put(volume, 3, 3)
+}
+
+fn keep(volume: &mut Disk) -> Result<(), Refused> {
+    volume.keep()
+}
+
+fn settle(volume: &mut Disk) -> Result<(), Refused> {
+    settle_next(volume)
+}
+
+fn finish(volume: &mut Disk) -> Result<(), Refused> {
+    volume.finish().map(|_| ())
+}
+
 // Opens with the layouts of the move, or, where it is finished, with the target as the source.
-fn reopened(volume: Disk, source: Stock, target: Stock) -> Disk {
-    let (opened, result) = Volume::open(volume.into_shelf(), source, target);
-    if number(result) != 13 {
+fn reopened(volume: Disk, ends: Ends) -> Disk {
+    let (opened, result) = ends.open(volume.into_shelf());
+    if answered(result) != Err(Refusal::LabelsDiffer) {
         return opened;
     }
-    let (turned, _) = Volume::open(opened.into_shelf(), target, source);
+    let (turned, _) = ends.turned().open(opened.into_shelf());
     turned
 }
 
-// Loses a member and goes on to the end of the move, with sector 3 in this version. Answers how many sectors are wrong, before and
-// then, and the rows settled where the move does not end.
-fn gone_on(volume: &mut Disk, version: u64, member: u64) -> u64 {
-    let before = wrong(volume, 3, version);
-    lose(volume, member);
-    if volume.kept() > 0 {
-        walk_on(volume, 4);
-        finish(volume);
-    }
-    before
-        .saturating_add(volume.settled())
-        .saturating_add(wrong(volume, 3, version))
+// what the open after a cut shows, and how many sectors are wrong from there to the end of the move
+#[derive(Clone, Copy, PartialEq, Eq, Debug)]
+struct Shown {
+    settled: u64,
+    kept: u64,
+    // of sector 3
+    version: u64,
+    wrong: usize,
 }
 
-// Cuts a step, opens again, and goes on. Answers whether the step was granted, the rows settled and kept and the version of sector 3
-// after the open, and how many sectors are wrong.
-fn cut_step(
+// With no sector wrong.
+fn all_well(settled: u64, kept: u64, version: u64) -> Shown {
+    Shown {
+        settled,
+        kept,
+        version,
+        wrong: 0,
+    }
+}
+
+// Loses a member and goes on to the end of the move, with sector 3 in this version. Answers how many sectors are wrong, before and
+// then.
+fn gone_on(volume: &mut Disk, version: u64, member: u64) -> Result<usize, Fail> {
+    let before = wrong_beside(volume, 3, version);
+    lose(volume, member)?;
+    if volume.kept() > 0 {
+        walk_on(volume, 4)?;
+        volume.finish()?;
+    }
+    Ok(before.saturating_add(wrong_beside(volume, 3, version)))
+}
+
+// Cuts a step, opens again, and goes on. Answers whether the step was granted, and what was shown then.
+fn cut_step<F: Fn(&mut Disk) -> Result<(), Refused>>(
     heap: Global,
-    step: Step,
+    step: &F,
     rows: u64,
-    fuse: u32,
-    choice: u32,
-) -> Result<(bool, [u64; 4]), Fail> {
-    let (source, target) = wider(4)?;
-    let mut volume = under_way(heap, source, target, rows)?;
-    set_cut(&mut volume, fuse, choice);
-    let granted = take(&mut volume, step).is_ok();
-    let mut opened = reopened(volume, source, target);
+    cut: Cut,
+) -> Result<(bool, Shown), Fail>
+    requires { F.IsAlwaysCallable step.now }
+{
+    let ends = wider(4)?;
+    let mut volume = under_way(heap, ends, rows)?;
+    cut.set(&mut volume);
+    let granted = step(&mut volume).is_ok();
+    let mut opened = reopened(volume, ends);
     let version = if shows(&mut opened, 3, 3) { 3 } else { 2 };
+    let settled = opened.settled();
+    let kept = opened.kept();
+    let wrong = gone_on(&mut opened, version, u64::from(cut.fuse % 4))?;
     Ok((
         granted,
-        [
-            opened.settled(),
-            opened.kept(),
+        Shown {
+            settled,
+            kept,
             version,
-            gone_on(&mut opened, version, u64::from(fuse % 4)),
-        ],
+            wrong,
+        },
     ))
 }
 
-// Cuts a step everywhere; the rows and the version are those from before it or those from after it.
-fn cut_everywhere(
+// Cuts a step everywhere, with so many rows settled; what is shown is the old or the new, and once it is granted the new.
+fn cut_everywhere<F: Fn(&mut Disk) -> Result<(), Refused>>(
     rt: &impl Abort,
     heap: Global,
-    step: Step,
+    step: F,
     rows: u64,
     choice: u32,
-    old: [u64; 4],
-    new: [u64; 4],
-) -> Result<(), Fail> {
+    old: Shown,
+    new: Shown,
+) -> Result<(), Fail>
+    requires { F.IsAlwaysCallable step }
+{
     for fuse in 0..ENOUGH {
-        let (granted, found) = cut_step(heap, step, rows, fuse, choice)?;
-        assert_eq!(rt; found, if granted || found != old { new } else { old });
+        let (granted, shown) = cut_step(heap, &step, rows, Cut { fuse, choice })?;
+        assert_eq!(rt; shown, if granted || shown != old { new } else { old });
         if granted {
             return Ok(());
         }
@@ -182,94 +224,66 @@ fn cut_everywhere(
 
 #[test]
 fn cut_steps(rt: HostRuntime) -> Result<(), Fail> {
-    for &choice in CHOICES.iter() {
-        cut_everywhere(
-            &rt,
-            rt.alloc(),
-            Step::Write,
-            1,
-            choice,
-            [1, 2, 2, 0],
-            [1, 2, 3, 0],
-        )?;
-        cut_everywhere(
-            &rt,
-            rt.alloc(),
-            Step::Keep,
-            1,
-            choice,
-            [1, 2, 2, 0],
-            [1, 3, 2, 0],
-        )?;
-        cut_everywhere(
-            &rt,
-            rt.alloc(),
-            Step::Settle,
-            1,
-            choice,
-            [1, 2, 2, 0],
-            [2, 2, 2, 0],
-        )?;
-        cut_everywhere(
-            &rt,
-            rt.alloc(),
-            Step::Finish,
-            4,
-            choice,
-            [4, 4, 2, 0],
-            [0, 0, 2, 0],
-        )?;
+    let heap = rt.alloc();
+    let old = all_well(1, 2, 2);
+    let last = all_well(4, 4, 2);
+    for choice in CHOICES {
+        cut_everywhere(&rt, heap, rewrite, 1, choice, old, all_well(1, 2, 3))?;
+        cut_everywhere(&rt, heap, keep, 1, choice, old, all_well(1, 3, 2))?;
+        cut_everywhere(&rt, heap, settle, 1, choice, old, all_well(2, 2, 2))?;
+        cut_everywhere(&rt, heap, finish, 4, choice, last, all_well(0, 0, 2))?;
     }
     Ok(())
 }
 
-// A refusal and its fault: the refusal's number, the operation's, the member, the sector and the row, 99 for none.
-pub fn told(res: Result<(), Refused>) -> [u64; 5] {
-    match res {
-        Ok(()) => [0; 5],
-        Err(refused) => match refused.fault {
-            Some(fault) => [
-                u64::from(refused.refusal.number()),
-                u64::from(fault.operation.number()),
-                fault.member,
-                fault.sector,
-                fault.row.unwrap_or(99),
-            ],
-            None => [u64::from(refused.refusal.number()), 99, 99, 99, 99],
-        },
+// What a step meets with each fuse, with 1 row settled and 2 kept; a keep after it finds the power gone, before any operation.
+fn meets<F: Fn(&mut Disk) -> Result<(), Refused>>(
+    rt: &impl Abort,
+    heap: Global,
+    step: F,
+    row: Option<u64>,
+    due: &[(u32, Operation, u64, u64)],
+) -> Result<(), Fail>
+    requires { F.IsAlwaysCallable step }
+{
+    for &(fuse, operation, member, sector) in due {
+        let mut volume = under_way(heap, wider(4)?, 1)?;
+        Cut { fuse, choice: 0 }.set(&mut volume);
+        let fault = Fault {
+            operation,
+            member,
+            sector,
+            row,
+        };
+        assert_eq!(rt;
+            step(&mut volume),
+            Err(Refused::met(Refusal::PowerLost, fault))
+        );
+        assert_eq!(rt; volume.keep(), Err(Refusal::PowerLost.into()));
     }
+    Ok(())
 }
-
-// What a step meets with this fuse, with 1 row settled and 2 kept, and what a keep finds after it.
-fn met(heap: Global, step: Step, fuse: u32) -> Result<[[u64; 5]; 2], Fail> {
-    let (source, target) = wider(4)?;
-    let mut volume = under_way(heap, source, target, 1)?;
-    set_cut(&mut volume, fuse, 0);
-    Ok([told(take(&mut volume, step)), told(volume.keep())])
-}
-
-const FAULTS: [(Step, u32, [u64; 5]); 11] = [
-    // the logs, their flush, the head, and the slot of sector 3; no row
-    (Step::Write, 0, [16, 2, 0, 1, 99]),
-    (Step::Write, 7, [16, 2, 3, 2, 99]),
-    (Step::Write, 8, [16, 3, 0, 0, 99]),
-    (Step::Write, 13, [16, 2, 1, 0, 99]),
-    (Step::Write, 21, [16, 2, 1, 6, 99]),
-    // sector 4 from the source, then its slot
-    (Step::Keep, 0, [16, 1, 1, 9, 2]),
-    (Step::Keep, 2, [16, 2, 1, 3, 2]),
-    // sector 3 from its slot, then its place in the target
-    (Step::Settle, 0, [16, 1, 0, 6, 1]),
-    (Step::Settle, 1, [16, 2, 3, 8, 1]),
-    // the copy is done: the head
-    (Step::Settle, 12, [16, 2, 1, 0, 1]),
-    (Step::Settle, 17, [16, 3, 2, 0, 1]),
-];
 
 #[test]
 fn faults(rt: HostRuntime) -> Result<(), Fail> {
-    for &(step, fuse, due) in FAULTS.iter() {
-        assert_eq!(rt; met(rt.alloc(), step, fuse)?, [due, [16, 99, 99, 99, 99]]);
-    }
-    Ok(())
+    // the logs, their flush, the head, and the slot of sector 3; no row
+    let of_write = [
+        (0, Operation::Write, 0, 1),
+        (7, Operation::Write, 3, 2),
+        (8, Operation::Flush, 0, 0),
+        (13, Operation::Write, 1, 0),
+        (21, Operation::Write, 1, 6),
+    ];
+    meets(&rt, rt.alloc(), rewrite, None, &of_write)?;
+    // sector 4 from the source, then its slot
+    let of_keep = [(0, Operation::Read, 1, 9), (2, Operation::Write, 1, 3)];
+    meets(&rt, rt.alloc(), keep, Some(2), &of_keep)?;
+    // sector 3 from its slot, then its place in the target; the copy is done: the head
+    let of_settle = [
+        (0, Operation::Read, 0, 6),
+        (1, Operation::Write, 3, 8),
+        (12, Operation::Write, 1, 0),
+        (17, Operation::Flush, 2, 0),
+    ];
+    meets(&rt, rt.alloc(), settle, Some(1), &of_settle)
 }

@@ -1,73 +1,71 @@
 // How far moves overlap, where a sector lives half-way, and whole moves.
-use crate::setup::{NONE, filled, laid, plain, walk_on, wrong};
-use answer::Refusal;
+use crate::setup::{Ends, far, near, parity, plain, striped, walk_on, wider, wrong};
+use answer::{Refusal, Refused};
 use kinds::stock::Stock;
 use layout::Layout;
 use overlap::walk::{Home, Walk};
 use overlap::{distance, need, reach};
-use std::alloc::{AllocError, Global};
+use shelf::plain::PlainShelf;
+use std::process::Abort;
 use std::test::Fail;
-use volume::Volume;
+use volume::{Finished, Volume};
 
-#[derive(Clone, Copy)]
-enum Way {
-    // parity, 3 members to 4
-    Wider,
-    // and back
-    Narrower,
-    // parity on 3 members, chunk 1 to 2
-    Coarser,
-    // stripes, 3 members to 2
-    Striped,
-    // near copies on 4 members to far copies on 3
-    Mirrored,
-    // near copies on 3 members to parity, of which only the parity lies on source row 1
-    ToParity,
+// parity on 3 members, chunk 1 to 2
+fn coarser() -> Result<Ends, Refusal> {
+    Ends::new(parity(3, 1, 4), parity(3, 2, 4))
 }
 
-// The source and the target of a move.
-fn ends(way: Way) -> Result<(Stock, Stock), Refusal> {
-    let (source, target) = match way {
-        Way::Wider => (laid(2, 3, 1, 1, 8), laid(2, 4, 1, 1, 8)),
-        Way::Narrower => (laid(2, 4, 1, 1, 8), laid(2, 3, 1, 1, 8)),
-        Way::Coarser => (laid(2, 3, 1, 1, 4), laid(2, 3, 1, 2, 4)),
-        Way::Striped => (laid(1, 3, 1, 1, 6), laid(1, 2, 1, 1, 6)),
-        Way::Mirrored => (laid(3, 4, 2, 2, 8), laid(4, 3, 2, 1, 12)),
-        Way::ToParity => (laid(3, 3, 2, 1, 2), laid(2, 3, 1, 1, 1)),
-    };
-    Ok((source?, target?))
+// stripes, 3 members to 2
+fn fewer() -> Result<Ends, Refusal> {
+    Ends::new(striped(3, 1, 6), striped(2, 1, 6))
 }
 
-// The distance of a move of so many sectors, and the need and the reach of a target row.
-// Of the first row of stripes alone the distance would be 1 row of 3 sectors, not 6.
-const OVERLAPS: [(Way, u64, u64, [u64; 3]); 14] = [
-    (Way::Wider, 16, 0, [2, 1, 1]),
-    (Way::Coarser, 8, 0, [4, 2, 2]),
-    (Way::Striped, 12, 0, [6, 1, 1]),
-    (Way::Striped, 12, 1, [6, 2, 2]),
-    (Way::Striped, 12, 2, [6, 3, 3]),
-    (Way::Striped, 12, 3, [6, 4, 4]),
-    (Way::Striped, 12, 4, [6, 0, 4]),
-    (Way::Striped, 12, 5, [6, 0, 4]),
-    (Way::Striped, 12, 6, [6, 0, 4]),
-    (Way::Wider, 0, 0, [0, 0, 0]),
-    (Way::Coarser, 0, 0, [0, 0, 0]),
-    (Way::Striped, 0, 0, [0, 0, 0]),
-    (Way::ToParity, 2, 0, [2, 2, 2]),
-    (Way::ToParity, 1, 0, [1, 1, 1]),
-];
+// near copies on 4 members to far copies on 3
+fn mirrored() -> Result<Ends, Refusal> {
+    Ends::new(near(4, 2, 2, 8), far(3, 2, 1, 12))
+}
+
+// near copies on 3 members to parity, of which only the parity lies on source row 1
+fn to_parity() -> Result<Ends, Refusal> {
+    Ends::new(near(3, 2, 1, 2), parity(3, 1, 1))
+}
+
+// The distance of a move of so many sectors; and of these target rows the need and the reach.
+fn overlap(rt: &impl Abort, ends: Ends, size: u64, due: u64, rows: &[(u64, u64, u64)]) {
+    let Ends { source, target } = ends;
+    assert_eq!(rt; distance(&source, &target, size), due);
+    for &(row, needed, reached) in rows {
+        assert_eq!(rt;
+            (
+                row,
+                need(&source, &target, size, row),
+                reach(&source, &target, size, row),
+            ),
+            (row, needed, reached)
+        );
+    }
+}
 
 #[test]
 fn overlaps(rt: HostRuntime) -> Result<(), Fail> {
-    for &(way, size, row, due) in OVERLAPS.iter() {
-        let (source, target) = ends(way)?;
-        let got = [
-            distance(&source, &target, size),
-            need(&source, &target, size, row),
-            reach(&source, &target, size, row),
-        ];
-        assert_eq!(rt; got, due);
-    }
+    overlap(&rt, wider(8)?, 16, 2, &[(0, 1, 1)]);
+    overlap(&rt, wider(8)?, 0, 0, &[(0, 0, 0)]);
+    overlap(&rt, coarser()?, 8, 4, &[(0, 2, 2)]);
+    overlap(&rt, coarser()?, 0, 0, &[(0, 0, 0)]);
+    // of the first row alone the distance would be 1 row of 3 sectors, not 6
+    let rows = [
+        (0, 1, 1),
+        (1, 2, 2),
+        (2, 3, 3),
+        (3, 4, 4),
+        (4, 0, 4),
+        (5, 0, 4),
+        (6, 0, 4),
+    ];
+    overlap(&rt, fewer()?, 12, 6, &rows);
+    overlap(&rt, fewer()?, 0, 0, &[(0, 0, 0)]);
+    overlap(&rt, to_parity()?, 2, 2, &[(0, 2, 2)]);
+    overlap(&rt, to_parity()?, 1, 1, &[(0, 1, 1)]);
     Ok(())
 }
 
@@ -88,50 +86,54 @@ fn homes(rt: HostRuntime) {
     );
 }
 
-// Finishes a move that has begun. Answers the counts of finish, and how many sectors are wrong.
-fn ended<S: shelf::Shelf>(volume: &mut Volume<S, Stock>) -> [u64; 3] {
-    walk_on(volume, NONE);
-    match volume.finish() {
-        Ok(counts) => [counts.rows, counts.kept, wrong(volume, NONE, 0)],
-        Err(_) => [99; 3],
+// what a whole move tells, and the sectors that are wrong at its end and once it is opened anew
+#[derive(Clone, Copy, PartialEq, Eq, Debug)]
+struct Moved {
+    distance: u64,
+    counts: Finished,
+    wrong: [usize; 2],
+}
+
+impl Moved {
+    // Makes a whole move.
+    fn of(ends: Ends, mut volume: Volume<PlainShelf, Stock>) -> Result<Moved, Refused> {
+        let distance = volume.begin()?;
+        walk_on(&mut volume, ends.target.rows())?;
+        let counts = volume.finish()?;
+        let ended = wrong(&mut volume);
+        let (mut opened, _) = ends.turned().open(volume.into_shelf());
+        Ok(Moved {
+            distance,
+            counts,
+            wrong: [ended, wrong(&mut opened)],
+        })
     }
 }
 
-// A whole move: what begin answers, its distance or its number; the end; and the sectors that are wrong once it is opened anew.
-fn moved(
-    heap: Global,
-    source: Stock,
-    target: Stock,
-    backup: u32,
-    size: u64,
-) -> Result<[u64; 5], AllocError> {
-    let mut volume = filled(plain(heap, 4, 31)?, source, target, backup, size);
-    match volume.begin() {
-        Ok(distance) => {
-            let [rows, kept, bad] = ended(&mut volume);
-            let (mut opened, _) = Volume::open(volume.into_shelf(), target, source);
-            Ok([distance, rows, kept, bad, wrong(&mut opened, NONE, 0)])
-        }
-        Err(refused) => Ok([u64::from(refused.refusal.number()), 0, 0, 0, 0]),
-    }
+// A move that goes well.
+fn due(distance: u64, rows: u64, kept: u64) -> Result<Moved, Refusal> {
+    Ok(Moved {
+        distance,
+        counts: Finished { rows, kept },
+        wrong: [0; 2],
+    })
 }
 
 // With as many slots as the distance, and with one less.
 #[test]
 fn whole_moves(rt: HostRuntime) -> Result<(), Fail> {
-    for &(way, backup, size, due) in [
-        (Way::Wider, 2, 16, [2, 8, 8, 0, 0]),
-        (Way::Narrower, 7, 16, [7, 8, 6, 0, 0]),
-        (Way::Coarser, 4, 8, [4, 2, 4, 0, 0]),
-        (Way::Coarser, 3, 8, [10, 0, 0, 0, 0]),
-        (Way::Striped, 6, 12, [6, 6, 4, 0, 0]),
-        (Way::Striped, 5, 12, [10, 0, 0, 0, 0]),
-        (Way::Mirrored, 16, 16, [16, 6, 8, 0, 0]),
-    ]
-    .iter()
-    {
-        let (source, target) = ends(way)?;
-        assert_eq!(rt; moved(rt.alloc(), source, target, backup, size)?, due);
+    for (ends, backup, size, due) in [
+        (wider(8)?, 2, 16, due(2, 8, 8)),
+        (wider(8)?.turned(), 7, 16, due(7, 8, 6)),
+        (coarser()?, 4, 8, due(4, 2, 4)),
+        (coarser()?, 3, 8, Err(Refusal::DistanceAboveBackup)),
+        (fewer()?, 6, 12, due(6, 6, 4)),
+        (fewer()?, 5, 12, Err(Refusal::DistanceAboveBackup)),
+        (mirrored()?, 16, 16, due(16, 6, 8)),
+    ] {
+        let volume = ends.filled(plain(rt.alloc(), 4, 31)?, backup, size)?;
+        let moved = Moved::of(ends, volume).map_err(|refused| refused.refusal);
+        assert_eq!(rt; moved, due);
     }
     Ok(())
 }

@@ -1,5 +1,5 @@
 // Tests of the volume and of all that it stands on: the worked examples of docs/, each refusal, and what cuts and losses leave.
-// A test mostly takes down all answers of a run as numbers and compares them once.
+// A test mostly takes down what a run answers, by name, and compares it with what is due.
 #![tactic(auto)]
 
 #[cfg(test)]

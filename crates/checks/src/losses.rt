@@ -1,91 +1,102 @@
 // Members that are lost: what can still be read and written, and what one loss too many gives.
-use crate::cuts::told;
-use crate::refusals::{accesses, answers};
+use crate::refusals::{Accesses, Answers};
 use crate::setup::{
-    NONE, begin, filled, laid, lose, pattern, put, shows, trial, trial_move, walk_on, wrong,
+    Answer, Ends, answered, far, lose, near, parity, pattern, put, shows, striped, trial,
+    trial_move, walk_on, wrong, wrong_beside,
 };
+use answer::{Fault, Operation, Refusal, Refused};
 use kinds::stock::Stock;
 use layout::Layout;
+use layout::label::Label;
 use shelf::Shelf;
 use shelf::trial::TrialShelf;
-use std::alloc::{AllocError, Global};
+use std::alloc::Global;
 use std::test::Fail;
 use volume::Volume;
 
-// Rewrites every sector, and back again. Answers how many are wrong in between.
-fn rewritten(volume: &mut Volume<TrialShelf, Stock>) -> u64 {
-    let mut count: u64 = 0;
+// How many sectors are wrong while every sector in turn is rewritten, and written back again.
+fn rewritten(volume: &mut Volume<TrialShelf, Stock>) -> Result<usize, Refused> {
+    let mut count: usize = 0;
     for sector in 0..volume.size() {
-        put(volume, sector, 2);
-        count = count.saturating_add(wrong(volume, sector, 2));
-        put(volume, sector, 1);
+        put(volume, sector, 2)?;
+        count = count.saturating_add(wrong_beside(volume, sector, 2));
+        put(volume, sector, 1)?;
     }
-    count
+    Ok(count)
+}
+
+// what is seen of a layout that has lost as many members as it bears, and then one more
+#[derive(Clone, Copy, PartialEq, Eq, Debug)]
+struct Survival {
+    // wrong sectors as they were, and once they are rewritten
+    wrong: usize,
+    rewritten: usize,
+    // a write that meets one more loss, and a read after it
+    write: Answer,
+    read: Answer,
 }
 
 // Loses as many members as a layout bears, from one on, and reads and rewrites every sector; then loses one more.
-// Answers how many sectors were wrong, before a write and after, and what a write meets and a read finds at last.
-fn survives(heap: Global, layout: Stock, first: u64) -> Result<[u64; 4], AllocError> {
-    let members = layout.members();
-    let mut volume = filled(trial(heap, members, 12)?, layout, layout, 1, 6);
-    let last = first.saturating_add(layout.loss());
+fn survives(heap: Global, label: Label, first: u64) -> Result<Survival, Fail> {
+    let ends = Ends::still(label)?;
+    let members = ends.source.members();
+    let mut volume = ends.filled(trial(heap, members, 12)?, 1, 6)?;
+    let last = first.saturating_add(ends.source.loss());
     for next in first..last {
-        lose(&mut volume, next % members);
+        lose(&mut volume, next % members)?;
     }
-    let counts = [wrong(&mut volume, NONE, 0), rewritten(&mut volume)];
-    lose(&mut volume, last % members);
-    Ok([
-        counts[0],
-        counts[1],
-        put(&mut volume, 0, 2),
-        accesses(&mut volume, 0)[1],
-    ])
+    let before = wrong(&mut volume);
+    let rewritten = rewritten(&mut volume)?;
+    lose(&mut volume, last % members)?;
+    Ok(Survival {
+        wrong: before,
+        rewritten,
+        write: answered(put(&mut volume, 0, 2)),
+        read: Accesses::of(&mut volume, 0)?.read,
+    })
 }
 
 #[test]
 fn losses_borne(rt: HostRuntime) -> Result<(), Fail> {
-    for &(kind, members, copies, chunk, depth) in [
-        (1, 2, 1, 1, 3),
-        (2, 3, 1, 1, 4),
-        (2, 5, 1, 2, 4),
-        (3, 3, 2, 1, 4),
-        (3, 4, 3, 2, 6),
-        (3, 5, 4, 1, 5),
-        (4, 3, 2, 1, 4),
-        (4, 4, 4, 1, 8),
-    ]
-    .iter()
-    {
-        let layout = laid(kind, members, copies, chunk, depth)?;
-        for first in 0..u64::from(members) {
-            assert_eq!(rt; survives(rt.alloc(), layout, first)?, [0, 0, 15, 15]);
+    for label in [
+        striped(2, 1, 3),
+        parity(3, 1, 4),
+        parity(5, 2, 4),
+        near(3, 2, 1, 4),
+        near(4, 3, 2, 6),
+        near(5, 4, 1, 5),
+        far(3, 2, 1, 4),
+        far(4, 4, 1, 8),
+    ] {
+        for first in 0..u64::from(label.members) {
+            assert_eq!(rt;
+                survives(rt.alloc(), label, first)?,
+                Survival {
+                    wrong: 0,
+                    rewritten: 0,
+                    write: Err(Refusal::MembersLost),
+                    read: Err(Refusal::MembersLost),
+                }
+            );
         }
     }
     Ok(())
 }
 
 // Parity, 3 members to 4, 1 row settled and 1 kept: source row 1 still has an old sector 2 beside sector 3, and its parity
-// has to go with that one. Answers how many sectors are wrong with a member lost.
-fn stale_peer(heap: Global, lost: u64) -> Result<u64, Fail> {
-    let mut volume = trial_move(heap)?;
-    begin(&mut volume);
-    walk_on(&mut volume, 1);
-    put(&mut volume, 2, 2);
-    put(&mut volume, 3, 2);
-    lose(&mut volume, lost);
-    let shown = if shows(&mut volume, 3, 2) && shows(&mut volume, 2, 2) {
-        0
-    } else {
-        99
-    };
-    put(&mut volume, 2, 1);
-    Ok(wrong(&mut volume, 3, 2).saturating_add(shown))
-}
-
+// has to go with that one. Both are shown with a member lost, and all others.
 #[test]
 fn stale_peers(rt: HostRuntime) -> Result<(), Fail> {
     for lost in 0..4u64 {
-        assert_eq!(rt; stale_peer(rt.alloc(), lost)?, 0);
+        let mut volume = trial_move(rt.alloc())?;
+        volume.begin()?;
+        walk_on(&mut volume, 1)?;
+        put(&mut volume, 2, 2)?;
+        put(&mut volume, 3, 2)?;
+        lose(&mut volume, lost)?;
+        assert!(rt; shows(&mut volume, 3, 2) && shows(&mut volume, 2, 2));
+        put(&mut volume, 2, 1)?;
+        assert_eq!(rt; wrong_beside(&mut volume, 3, 2), 0);
     }
     Ok(())
 }
@@ -95,36 +106,36 @@ fn stale_peers(rt: HostRuntime) -> Result<(), Fail> {
 #[test]
 fn lost_in_a_move(rt: HostRuntime) -> Result<(), Fail> {
     let mut volume = trial_move(rt.alloc())?;
-    begin(&mut volume);
-    lose(&mut volume, 0);
-    lose(&mut volume, 1);
-    let met = told(volume.write(0, &pattern(0, 2)));
-    let first = answers(rt.alloc(), &mut volume);
-    volume.shelf_mut().set_fuse(0);
-    volume.shelf_mut().flush(2);
-    let second = answers(rt.alloc(), &mut volume);
-    assert_eq!(rt; met, [15, 1, 0, 7, 99]);
+    volume.begin()?;
+    lose(&mut volume, 0)?;
+    lose(&mut volume, 1)?;
+    let met = Fault {
+        operation: Operation::Read,
+        member: 0,
+        sector: 7,
+        row: None,
+    };
     assert_eq!(rt;
-        [first, second],
-        [[15, 15, 15, 15, 15, 18], [16, 16, 16, 16, 16, 18]]
+        volume.write(0, &pattern(0, 2)),
+        Err(Refused::met(Refusal::MembersLost, met))
     );
+    let first = Answers::of(rt.alloc(), &mut volume)?;
+    assert_eq!(rt; first, Answers::all(Refusal::MembersLost));
+    volume.shelf_mut().set_fuse(0);
+    assert!(rt; volume.shelf_mut().flush(2).is_err());
+    let second = Answers::of(rt.alloc(), &mut volume)?;
+    assert_eq!(rt; second, Answers::all(Refusal::PowerLost));
     Ok(())
 }
 
 // Stripes bear no loss, so that begin is refused before it starts; the source goes on.
 #[test]
 fn target_bears_less(rt: HostRuntime) -> Result<(), Fail> {
-    let source = laid(2, 3, 1, 1, 4)?;
-    let target = laid(1, 3, 1, 1, 4)?;
-    let mut volume = filled(trial(rt.alloc(), 3, 16)?, source, target, 8, 8);
-    lose(&mut volume, 2);
-    assert_eq!(rt;
-        [
-            put(&mut volume, 0, 1),
-            begin(&mut volume),
-            wrong(&mut volume, NONE, 0),
-        ],
-        [0, 15, 0]
-    );
+    let ends = Ends::new(parity(3, 1, 4), striped(3, 1, 4))?;
+    let mut volume = ends.filled(trial(rt.alloc(), 3, 16)?, 8, 8)?;
+    lose(&mut volume, 2)?;
+    put(&mut volume, 0, 1)?;
+    assert_eq!(rt; answered(volume.begin()), Err(Refusal::MembersLost));
+    assert_eq!(rt; wrong(&mut volume), 0);
     Ok(())
 }

@@ -1,125 +1,249 @@
-// Which call is refused with which number, and which of two goes first.
+// Which call is refused with which refusal, and which of two goes first.
 use crate::setup::{
-    NONE, begin, finish, keep, laid, number, pattern, plain, plain_move, put, same, settle_stray,
-    stray_grant, trial, try_copy, walk_on, wider, wrong,
+    Answer, Ends, answered, laid, parity, pattern, plain, plain_move, put, stray_grant, striped,
+    trial, try_copy, walk_on, wider, wrong, wrong_beside,
 };
+use answer::{Operation, Refusal};
 use kinds::stock::Stock;
+use layout::label::Label;
 use overlap::distance;
+use sector::SECTOR;
 use shelf::Shelf;
 use shelf::plain::PlainShelf;
 use shelf::trial::{NEVER, TrialShelf};
-use std::alloc::{AllocError, Global};
+use std::alloc::Global;
 use std::test::Fail;
 use volume::Volume;
 
-// What begin, keep, copy, finish, a settle of a stray grant and a hand back of one answer, in this order.
-pub fn answers<S: Shelf>(heap: Global, volume: &mut Volume<S, Stock>) -> [u64; 6] {
-    let settled = settle_stray(heap, volume);
-    let back = match stray_grant(heap) {
-        Some(grant) => number(volume.hand_back(grant)),
-        None => 0,
-    };
-    [
-        begin(volume),
-        keep(volume),
-        try_copy(volume),
-        finish(volume),
-        settled,
-        back,
-    ]
+// The refusals and the operations by their numbers.
+#[test]
+fn numbers(rt: HostRuntime) {
+    for (refusal, number) in [
+        (Refusal::BufferLength, 1),
+        (Refusal::PastEnd, 2),
+        (Refusal::WrongPhase, 3),
+        (Refusal::RowInHand, 4),
+        (Refusal::NeedNotKept, 5),
+        (Refusal::BackupFull, 6),
+        (Refusal::AllKept, 7),
+        (Refusal::RowsLeft, 8),
+        (Refusal::AllSettled, 9),
+        (Refusal::DistanceAboveBackup, 10),
+        (Refusal::OutOfLimits, 11),
+        (Refusal::NoHead, 12),
+        (Refusal::LabelsDiffer, 13),
+        (Refusal::HeadMisfit, 14),
+        (Refusal::MembersLost, 15),
+        (Refusal::PowerLost, 16),
+        (Refusal::NumbersSpent, 17),
+        (Refusal::WrongGrant, 18),
+    ] {
+        assert_eq!(rt; refusal.number(), number);
+    }
+    for (operation, number) in [
+        (Operation::Restart, 0),
+        (Operation::Read, 1),
+        (Operation::Write, 2),
+        (Operation::Flush, 3),
+    ] {
+        assert_eq!(rt; operation.number(), number);
+    }
 }
 
-// What reads of this sector by a short buffer and by a whole one answer, 99 where the buffer was touched, and then writes.
-pub fn accesses<S: Shelf>(volume: &mut Volume<S, Stock>, sector: u64) -> [u64; 4] {
-    let old = pattern(9, 9);
-    let mut whole = old;
-    let mut short = [7u8; 511];
-    let first = number(volume.read(sector, &mut short));
-    let second = number(volume.read(sector, &mut whole));
-    let kept = same(&whole, &old) && short[0] == 7 && short[510] == 7;
-    [
-        first,
-        if kept { second } else { 99 },
-        number(volume.write(sector, &short)),
-        number(volume.write(sector, &old)),
-    ]
+// What each step of a move answers, the settle of a stray grant and the hand back of one.
+#[derive(Clone, Copy, PartialEq, Eq, Debug)]
+pub struct Answers {
+    pub begin: Answer,
+    pub keep: Answer,
+    pub copy: Answer,
+    pub finish: Answer,
+    pub settle: Answer,
+    pub hand_back: Answer,
 }
+
+impl Answers {
+    // The same from all; but a grant that is handed back is judged by the hand alone.
+    pub fn all(refusal: Refusal) -> Answers {
+        Answers {
+            begin: Err(refusal),
+            keep: Err(refusal),
+            copy: Err(refusal),
+            finish: Err(refusal),
+            settle: Err(refusal),
+            hand_back: Err(Refusal::WrongGrant),
+        }
+    }
+
+    pub fn of<S: Shelf>(heap: Global, volume: &mut Volume<S, Stock>) -> Result<Answers, Fail> {
+        let stray = stray_grant(heap)?;
+        let settle = answered(volume.settle(stray));
+        let stray = stray_grant(heap)?;
+        let hand_back = answered(volume.hand_back(stray));
+        Ok(Answers {
+            begin: answered(volume.begin()),
+            keep: answered(volume.keep()),
+            copy: answered(try_copy(volume)),
+            finish: answered(volume.finish()),
+            settle,
+            hand_back,
+        })
+    }
+}
+
+// What reads and writes of a sector answer, with a buffer that is too short and with a whole one.
+#[derive(Clone, Copy, PartialEq, Eq, Debug)]
+pub struct Accesses {
+    pub short_read: Answer,
+    pub read: Answer,
+    pub short_write: Answer,
+    pub write: Answer,
+}
+
+impl Accesses {
+    pub fn all(refusal: Refusal) -> Accesses {
+        Accesses {
+            short_read: Err(refusal),
+            read: Err(refusal),
+            short_write: Err(refusal),
+            write: Err(refusal),
+        }
+    }
+
+    // A read that is refused leaves its buffer.
+    pub fn of<S: Shelf>(volume: &mut Volume<S, Stock>, sector: u64) -> Result<Accesses, Fail> {
+        let old = pattern(9, 9);
+        let mut whole = old;
+        let mut short = [7u8; SECTOR - 1];
+        let short_read = answered(volume.read(sector, &mut short));
+        let read = answered(volume.read(sector, &mut whole));
+        if short != [7; SECTOR - 1] || (read.is_err() && whole != old) {
+            return Err(Fail::new("a refused read touched its buffer"));
+        }
+        Ok(Accesses {
+            short_read,
+            read,
+            short_write: answered(volume.write(sector, &short)),
+            write: answered(volume.write(sector, &old)),
+        })
+    }
+}
+
+// of a sector that the volume has not
+const PAST: Accesses = Accesses {
+    short_read: Err(Refusal::BufferLength),
+    read: Err(Refusal::PastEnd),
+    short_write: Err(Refusal::BufferLength),
+    write: Err(Refusal::PastEnd),
+};
 
 #[test]
 fn buffers_and_ends(rt: HostRuntime) -> Result<(), Fail> {
     let mut volume = plain_move(rt.alloc())?;
-    let past = accesses(&mut volume, 16);
-    let far_past = accesses(&mut volume, u64::MAX);
-    let [read, _, written, _] = accesses(&mut volume, 0);
-    let rest = [
-        read,
-        written,
-        number(volume.write(0, &[])),
-        wrong(&mut volume, 0, 9),
-    ];
-    // the last write of sector 0 was one of another sector's content
+    assert_eq!(rt; Accesses::of(&mut volume, 16)?, PAST);
+    assert_eq!(rt; Accesses::of(&mut volume, u64::MAX)?, PAST);
     assert_eq!(rt;
-        [past, far_past, rest],
-        [[1, 2, 1, 2], [1, 2, 1, 2], [1, 1, 1, 1]]
+        Accesses::of(&mut volume, 0)?,
+        Accesses {
+            short_read: Err(Refusal::BufferLength),
+            read: Ok(()),
+            short_write: Err(Refusal::BufferLength),
+            write: Ok(()),
+        }
     );
+    assert_eq!(rt; answered(volume.write(0, &[])), Err(Refusal::BufferLength));
+    // the last write of sector 0 was one of another sector's content
+    assert_eq!(rt; wrong_beside(&mut volume, 0, 9), 1);
     Ok(())
 }
 
 // Calls that are refused leave every byte of the shelf.
 #[test]
 fn refused_calls_leave_all(rt: HostRuntime) -> Result<(), Fail> {
-    let (source, target) = wider(8)?;
+    let ends = wider(8)?;
     let run = plain_move(rt.alloc())?.into_shelf().into_bytes();
     let copy = run.clone()?;
-    let (mut volume, _) = Volume::open(PlainShelf::new(4, 15, run), source, laid(2, 3, 1, 2, 4)?);
-    let calls = accesses(&mut volume, 16) == [1, 2, 1, 2]
-        && answers(rt.alloc(), &mut volume) == [11, 3, 3, 3, 3, 18];
-    let (shut, created) = Volume::create(volume.into_shelf(), source, target, 5, 16);
-    let (shut, opened) = Volume::open(shut.into_shelf(), target, source);
-    assert!(rt;
-        shut.into_shelf().into_bytes() == copy
-            && calls
-            && number(created) == 11
-            && number(opened) == 13
+    let other = Ends {
+        target: laid(parity(3, 2, 4))?,
+        ..ends
+    };
+    let (mut volume, _) = other.open(PlainShelf::new(4, 15, run));
+    assert_eq!(rt; Accesses::of(&mut volume, 16)?, PAST);
+    assert_eq!(rt;
+        Answers::of(rt.alloc(), &mut volume)?,
+        Answers {
+            begin: Err(Refusal::OutOfLimits),
+            ..Answers::all(Refusal::WrongPhase)
+        }
+    );
+    let (shut, created) = ends.create(volume.into_shelf(), 5, 16);
+    let (shut, opened) = ends.turned().open(shut.into_shelf());
+    assert!(rt; shut.into_shelf().into_bytes() == copy);
+    assert_eq!(rt;
+        [answered(created), answered(opened)],
+        [Err(Refusal::OutOfLimits), Err(Refusal::LabelsDiffer)]
     );
     Ok(())
 }
 
-// With the next row in hand: writes of these sectors, a copy, a keep, and settles of a stray grant and of its own.
-pub fn in_hand<S: Shelf>(
-    heap: Global,
-    volume: &mut Volume<S, Stock>,
-    inside: u64,
-    outside: u64,
-) -> [u64; 6] {
-    match volume.copy() {
-        Ok(grant) => [
-            put(volume, inside, 1),
-            put(volume, outside, 1),
-            try_copy(volume),
-            keep(volume),
-            settle_stray(heap, volume),
-            number(volume.settle(grant)),
-        ],
-        Err(_) => [99; 6],
+// With the next row in hand: what writes into that row and past it answer, a copy, a keep, a settle of a stray grant, and one
+// of the row's own.
+#[derive(Clone, Copy, PartialEq, Eq, Debug)]
+pub struct InHand {
+    pub inside: Answer,
+    pub outside: Answer,
+    pub copy: Answer,
+    pub keep: Answer,
+    pub stray: Answer,
+    pub own: Answer,
+}
+
+impl InHand {
+    pub fn of<S: Shelf>(
+        heap: Global,
+        volume: &mut Volume<S, Stock>,
+        inside: u64,
+        outside: u64,
+    ) -> Result<InHand, Fail> {
+        let stray = stray_grant(heap)?;
+        match volume.copy() {
+            Ok(grant) => Ok(InHand {
+                inside: answered(put(volume, inside, 1)),
+                outside: answered(put(volume, outside, 1)),
+                copy: answered(try_copy(volume)),
+                keep: answered(volume.keep()),
+                stray: answered(volume.settle(stray)),
+                own: answered(volume.settle(grant)),
+            }),
+            Err(refused) => {
+                let _ = volume.hand_back(stray);
+                Err(refused.into())
+            }
+        }
     }
 }
+
+// What they answer where all is well.
+pub const WHILE_HELD: InHand = InHand {
+    inside: Err(Refusal::RowInHand),
+    outside: Ok(()),
+    copy: Err(Refusal::RowInHand),
+    keep: Ok(()),
+    stray: Err(Refusal::WrongGrant),
+    own: Ok(()),
+};
 
 // A second begin, a copy before its row is kept, a finish before the last row, and more kept than there are slots.
 #[test]
 fn first_steps(rt: HostRuntime) -> Result<(), Fail> {
     let mut volume = plain_move(rt.alloc())?;
-    begin(&mut volume);
-    let early = [
-        begin(&mut volume),
-        try_copy(&mut volume),
-        finish(&mut volume),
-        keep(&mut volume),
-        keep(&mut volume),
-        keep(&mut volume),
-        try_copy(&mut volume),
-    ];
-    assert_eq!(rt; early, [3, 5, 8, 0, 0, 6, 0]);
+    volume.begin()?;
+    assert_eq!(rt; answered(volume.begin()), Err(Refusal::WrongPhase));
+    assert_eq!(rt; answered(try_copy(&mut volume)), Err(Refusal::NeedNotKept));
+    assert_eq!(rt; answered(volume.finish()), Err(Refusal::RowsLeft));
+    volume.keep()?;
+    volume.keep()?;
+    assert_eq!(rt; answered(volume.keep()), Err(Refusal::BackupFull));
+    try_copy(&mut volume)?;
     Ok(())
 }
 
@@ -127,17 +251,11 @@ fn first_steps(rt: HostRuntime) -> Result<(), Fail> {
 #[test]
 fn row_in_hand(rt: HostRuntime) -> Result<(), Fail> {
     let mut volume = plain_move(rt.alloc())?;
-    begin(&mut volume);
-    walk_on(&mut volume, 1);
-    keep(&mut volume);
-    let hand = in_hand(rt.alloc(), &mut volume, 5, 6);
-    assert_eq!(rt;
-        [
-            hand,
-            [volume.settled(), wrong(&mut volume, NONE, 0), 0, 0, 0, 0],
-        ],
-        [[4, 0, 4, 0, 18, 0], [2, 0, 0, 0, 0, 0]]
-    );
+    volume.begin()?;
+    walk_on(&mut volume, 1)?;
+    volume.keep()?;
+    assert_eq!(rt; InHand::of(rt.alloc(), &mut volume, 5, 6)?, WHILE_HELD);
+    assert_eq!(rt; (volume.settled(), wrong(&mut volume)), (2, 0));
     Ok(())
 }
 
@@ -146,125 +264,161 @@ fn row_in_hand(rt: HostRuntime) -> Result<(), Fail> {
 #[test]
 fn last_steps(rt: HostRuntime) -> Result<(), Fail> {
     let mut volume = plain_move(rt.alloc())?;
-    begin(&mut volume);
-    walk_on(&mut volume, 5);
-    keep(&mut volume);
-    let hand = in_hand(rt.alloc(), &mut volume, 15, 16);
-    let settled = walk_on(&mut volume, 8);
-    let late = [
-        settled,
-        try_copy(&mut volume),
-        keep(&mut volume),
-        finish(&mut volume),
-        wrong(&mut volume, NONE, 0),
-        0,
-    ];
-    let after = answers(rt.alloc(), &mut volume);
+    volume.begin()?;
+    walk_on(&mut volume, 5)?;
+    volume.keep()?;
     assert_eq!(rt;
-        [hand, late, after],
-        [[4, 2, 4, 0, 18, 0], [8, 9, 7, 0, 0, 0], [3, 3, 3, 3, 3, 18]]
+        InHand::of(rt.alloc(), &mut volume, 15, 16)?,
+        InHand {
+            outside: Err(Refusal::PastEnd),
+            ..WHILE_HELD
+        }
+    );
+    walk_on(&mut volume, 8)?;
+    assert_eq!(rt; volume.settled(), 8);
+    assert_eq!(rt; answered(try_copy(&mut volume)), Err(Refusal::AllSettled));
+    assert_eq!(rt; answered(volume.keep()), Err(Refusal::AllKept));
+    volume.finish()?;
+    assert_eq!(rt; wrong(&mut volume), 0);
+    assert_eq!(rt;
+        Answers::of(rt.alloc(), &mut volume)?,
+        Answers::all(Refusal::WrongPhase)
     );
     Ok(())
 }
 
-// Opens a volume again while a row is in hand: the row, the hand afterwards, and what a settle of the old grant answers.
-fn stale(volume: Volume<PlainShelf, Stock>, source: Stock, target: Stock) -> [u64; 3] {
-    let mut old = volume;
-    match old.copy() {
-        Ok(grant) => {
-            let row = old.hand().unwrap_or(99);
-            let (mut opened, _) = Volume::open(old.into_shelf(), source, target);
-            [
-                row,
-                opened.hand().unwrap_or(99),
-                number(opened.settle(grant)),
-            ]
-        }
-        Err(_) => [0; 3],
-    }
-}
-
+// A volume is opened again while row 1 is in hand: the hand is empty then, and a settle of the old grant is refused.
 #[test]
 fn stale_grant(rt: HostRuntime) -> Result<(), Fail> {
-    let (source, target) = wider(8)?;
     let mut volume = plain_move(rt.alloc())?;
-    begin(&mut volume);
-    walk_on(&mut volume, 1);
-    keep(&mut volume);
-    assert_eq!(rt; stale(volume, source, target), [1, 99, 18]);
+    volume.begin()?;
+    walk_on(&mut volume, 1)?;
+    volume.keep()?;
+    let ends = wider(8)?;
+    let grant = volume.copy()?;
+    let row = volume.hand();
+    let (mut opened, _) = ends.open(volume.into_shelf());
+    let hand = opened.hand();
+    let late = answered(opened.settle(grant));
+    assert_eq!(rt; (row, hand), (Some(1), None));
+    assert_eq!(rt; late, Err(Refusal::WrongGrant));
     Ok(())
 }
 
 // What begin answers on a shelf of 3 members with 10 sectors, 3 slots, and a volume of 8 sectors; and the distance.
-fn begun(heap: Global, target: Stock) -> Result<[u64; 2], Fail> {
-    let source = laid(2, 3, 1, 1, 4)?;
-    let (mut volume, _) = Volume::create(plain(heap, 3, 10)?, source, target, 3, 8);
-    Ok([begin(&mut volume), distance(&source, &target, 8)])
+fn begun(heap: Global, target: Label) -> Result<(Answer, u64), Fail> {
+    let ends = Ends::new(parity(3, 1, 4), target)?;
+    let (mut volume, _) = ends.create(plain(heap, 3, 10)?, 3, 8);
+    Ok((
+        answered(volume.begin()),
+        distance(&ends.source, &ends.target, 8),
+    ))
 }
 
 // Targets that begin refuses; where the distance is above the slots too, the limits go first.
 #[test]
 fn begin_refused(rt: HostRuntime) -> Result<(), Fail> {
-    for &(kind, members, chunk, depth, due) in [
-        (2, 3, 1, 4, [0, 2]),
-        (2, 3, 2, 4, [10, 4]),
-        (2, 3, 2, 6, [11, 4]),
-        (2, 4, 1, 4, [11, 2]),
-        (1, 2, 1, 3, [11, 2]),
-    ]
-    .iter()
-    {
-        assert_eq!(rt;
-            begun(rt.alloc(), laid(kind, members, 1, chunk, depth)?)?,
-            due
-        );
+    for (target, answer, distance) in [
+        (parity(3, 1, 4), Ok(()), 2),
+        (parity(3, 2, 4), Err(Refusal::DistanceAboveBackup), 4),
+        (parity(3, 2, 6), Err(Refusal::OutOfLimits), 4),
+        (parity(4, 1, 4), Err(Refusal::OutOfLimits), 2),
+        (striped(2, 1, 3), Err(Refusal::OutOfLimits), 2),
+    ] {
+        assert_eq!(rt; begun(rt.alloc(), target)?, (answer, distance));
     }
     Ok(())
 }
 
 // A shelf of 3 members, of which so many are found absent, and the power lost too where the fuse is that short.
-fn worn(heap: Global, lost: u64, fuse: u32) -> Result<TrialShelf, AllocError> {
+fn worn(heap: Global, lost: u64, fuse: u32) -> Result<TrialShelf, Fail> {
     let mut shelf = trial(heap, 3, 9)?;
     shelf.set_fuse(fuse);
     for member in 0..lost {
-        let _ = shelf.lose(member);
-        shelf.flush(member);
+        shelf.lose(member)?;
+        // found absent, or the power gone
+        let _ = shelf.flush(member);
     }
-    shelf.flush(2);
+    // the power gone, where the fuse is that short
+    let _ = shelf.flush(2);
     shelf.set_fuse(NEVER);
     Ok(shelf)
 }
 
-// The source's members and depth, slots and size, lost members and fuse, and the answer.
-const CREATES: [(u8, u64, u32, u64, u64, u32, u64); 13] = [
-    (3, 4, 2, 8, 0, 9, 0),
-    (3, 4, 0, 8, 0, 9, 11),
-    (3, 4, 4097, 8, 0, 9, 11),
-    (3, 4, u32::MAX, 8, 0, 9, 11),
-    (3, 4, 3, 8, 0, 9, 11),
-    (3, 4, 2, 9, 0, 9, 11),
-    (3, 4, 2, u64::MAX, 0, 9, 11),
-    (4, 4, 2, 8, 0, 9, 11),
-    (3, 5, 2, 8, 0, 9, 11),
-    (3, 4, 2, 8, 1, 9, 0),
-    (3, 4, 2, 8, 2, 9, 15),
+// a volume that is to be created on such a shelf, by a source of parity with chunk 1
+#[derive(Clone, Copy)]
+struct Creation {
+    members: u8,
+    depth: u64,
+    backup: u32,
+    size: u64,
+    lost: u64,
+    fuse: u32,
+    due: Answer,
+}
+
+const CREATED: Creation = Creation {
+    members: 3,
+    depth: 4,
+    backup: 2,
+    size: 8,
+    lost: 0,
+    fuse: 9,
+    due: Ok(()),
+};
+
+const OUT: Creation = Creation {
+    due: Err(Refusal::OutOfLimits),
+    ..CREATED
+};
+
+const CREATIONS: [Creation; 13] = [
+    CREATED,
+    Creation { backup: 0, ..OUT },
+    Creation {
+        backup: 4097,
+        ..OUT
+    },
+    Creation {
+        backup: u32::MAX,
+        ..OUT
+    },
+    Creation { backup: 3, ..OUT },
+    Creation { size: 9, ..OUT },
+    Creation {
+        size: u64::MAX,
+        ..OUT
+    },
+    Creation { members: 4, ..OUT },
+    Creation { depth: 5, ..OUT },
+    Creation { lost: 1, ..CREATED },
+    Creation {
+        lost: 2,
+        due: Err(Refusal::MembersLost),
+        ..CREATED
+    },
     // 11 before 16, and 16 before 15
-    (3, 4, 2, 8, 2, 2, 16),
-    (3, 4, 0, 8, 2, 2, 11),
+    Creation {
+        lost: 2,
+        fuse: 2,
+        due: Err(Refusal::PowerLost),
+        ..CREATED
+    },
+    Creation {
+        backup: 0,
+        lost: 2,
+        fuse: 2,
+        ..OUT
+    },
 ];
 
 #[test]
 fn create_refused(rt: HostRuntime) -> Result<(), Fail> {
-    for &(members, depth, backup, size, lost, fuse, due) in CREATES.iter() {
-        let source = laid(2, members, 1, 1, depth)?;
-        let (_, result) = Volume::create(
-            worn(rt.alloc(), lost, fuse)?,
-            source,
-            source,
-            backup,
-            size,
-        );
-        assert_eq!(rt; number(result), due);
+    for creation in CREATIONS {
+        let ends = Ends::still(parity(creation.members, 1, creation.depth))?;
+        let shelf = worn(rt.alloc(), creation.lost, creation.fuse)?;
+        let (_, created) = ends.create(shelf, creation.backup, creation.size);
+        assert_eq!(rt; answered(created), creation.due);
     }
     Ok(())
 }
@@ -272,31 +426,38 @@ fn create_refused(rt: HostRuntime) -> Result<(), Fail> {
 // A shut volume's calls answer 3, before all else; its shelf can be opened.
 #[test]
 fn shut_volume(rt: HostRuntime) -> Result<(), Fail> {
-    let (source, target) = wider(8)?;
-    let (mut shut, created) = Volume::create(
-        plain_move(rt.alloc())?.into_shelf(),
-        source,
-        target,
-        0,
-        16,
+    let ends = wider(8)?;
+    let (mut shut, created) = ends.create(plain_move(rt.alloc())?.into_shelf(), 0, 16);
+    assert_eq!(rt; answered(created), Err(Refusal::OutOfLimits));
+    assert_eq!(rt;
+        Accesses::of(&mut shut, 99)?,
+        Accesses::all(Refusal::WrongPhase)
     );
-    let calls = accesses(&mut shut, 99) == [3, 3, 3, 3]
-        && answers(rt.alloc(), &mut shut) == [3, 3, 3, 3, 3, 18];
-    let (mut volume, opened) = Volume::open(shut.into_shelf(), source, target);
-    assert!(rt;
-        calls && number(created) == 11 && number(opened) == 0 && wrong(&mut volume, NONE, 0) == 0
+    assert_eq!(rt;
+        Answers::of(rt.alloc(), &mut shut)?,
+        Answers::all(Refusal::WrongPhase)
     );
+    let (mut volume, opened) = ends.open(shut.into_shelf());
+    opened?;
+    assert_eq!(rt; wrong(&mut volume), 0);
     Ok(())
 }
 
 // Shut for want of power they answer 16.
 #[test]
 fn shut_without_power(rt: HostRuntime) -> Result<(), Fail> {
-    let (source, target) = wider(4)?;
-    let (mut shut, created) = Volume::create(worn(rt.alloc(), 0, 0)?, source, target, 2, 8);
-    let calls = accesses(&mut shut, 0) == [16, 16, 16, 16]
-        && answers(rt.alloc(), &mut shut) == [16, 16, 16, 16, 16, 18];
-    let (_, opened) = Volume::open(shut.into_shelf(), source, target);
-    assert!(rt; calls && number(created) == 16 && number(opened) == 12);
+    let ends = wider(4)?;
+    let (mut shut, created) = ends.create(worn(rt.alloc(), 0, 0)?, 2, 8);
+    assert_eq!(rt; answered(created), Err(Refusal::PowerLost));
+    assert_eq!(rt;
+        Accesses::of(&mut shut, 0)?,
+        Accesses::all(Refusal::PowerLost)
+    );
+    assert_eq!(rt;
+        Answers::of(rt.alloc(), &mut shut)?,
+        Answers::all(Refusal::PowerLost)
+    );
+    let (_, opened) = ends.open(shut.into_shelf());
+    assert_eq!(rt; answered(opened), Err(Refusal::NoHead));
     Ok(())
 }

@@ -1,36 +1,107 @@
-// What the tests work with: layouts from numbers, shelves of zeros, contents that tell their sector, and volumes under way.
+// What the tests work with: layouts, shelves of zeros, contents that tell their sector, and volumes under way.
 use answer::{Refusal, Refused};
 use head::{Head, MOST_BACKUP, MOST_NUMBER, Progress};
 use kinds::stock::Stock;
 use layout::Layout;
+use layout::kind::Kind;
 use layout::label::Label;
 use sector::{SECTOR, Sector, zeros};
-use shelf::Shelf;
 use shelf::plain::PlainShelf;
 use shelf::trial::TrialShelf;
+use shelf::{Failure, Shelf};
 use std::alloc::{AllocError, Global};
 use std::test::Fail;
 use volume::Volume;
 use volume::grant::Grant;
 
-// no sector
-pub const NONE: u64 = u64::MAX;
+// what a call answers, without the fault
+pub type Answer = Result<(), Refusal>;
 
-// A stock layout: its kind, members, copies, chunk and depth.
-pub fn laid(kind: u8, members: u8, copies: u8, chunk: u32, depth: u64) -> Result<Stock, Refusal> {
-    Stock::from_label(&Label {
-        kind,
-        members,
-        copies,
-        reserved: 0,
-        chunk,
-        depth,
-    })
+pub fn answered<T: Drop>(res: Result<T, Refused>) -> Answer {
+    res.map(|_| ()).map_err(|refused| refused.refusal)
 }
 
-// Left-symmetric parity of chunk 1 and this depth on 3 members, and on 4.
-pub fn wider(depth: u64) -> Result<(Stock, Stock), Refusal> {
-    Ok((laid(2, 3, 1, 1, depth)?, laid(2, 4, 1, 1, depth)?))
+// The labels of the stock kinds: members, copies where there are more than one, chunk and depth.
+pub fn striped(members: u8, chunk: u32, depth: u64) -> Label {
+    Label::stock(Kind::Striped, members, 1, chunk, depth)
+}
+
+pub fn parity(members: u8, chunk: u32, depth: u64) -> Label {
+    Label::stock(Kind::LeftSymmetric, members, 1, chunk, depth)
+}
+
+pub fn near(members: u8, copies: u8, chunk: u32, depth: u64) -> Label {
+    Label::stock(Kind::Near, members, copies, chunk, depth)
+}
+
+pub fn far(members: u8, copies: u8, chunk: u32, depth: u64) -> Label {
+    Label::stock(Kind::Far, members, copies, chunk, depth)
+}
+
+pub fn laid(label: Label) -> Result<Stock, Refusal> {
+    Stock::from_label(&label)
+}
+
+// The two layouts of a move.
+#[derive(Clone, Copy)]
+pub struct Ends {
+    pub source: Stock,
+    pub target: Stock,
+}
+
+impl Ends {
+    pub fn new(source: Label, target: Label) -> Result<Ends, Refusal> {
+        Ok(Ends {
+            source: laid(source)?,
+            target: laid(target)?,
+        })
+    }
+
+    // The layouts of a volume that stays as it is.
+    pub fn still(label: Label) -> Result<Ends, Refusal> {
+        Ends::new(label, label)
+    }
+
+    // The way back.
+    pub fn turned(self) -> Ends {
+        Ends {
+            source: self.target,
+            target: self.source,
+        }
+    }
+
+    pub fn create<S: Shelf>(
+        self,
+        shelf: S,
+        backup: u32,
+        size: u64,
+    ) -> (Volume<S, Stock>, Result<(), Refused>) {
+        Volume::create(shelf, self.source, self.target, backup, size)
+    }
+
+    pub fn open<S: Shelf>(self, shelf: S) -> (Volume<S, Stock>, Result<(), Refused>) {
+        Volume::open(shelf, self.source, self.target)
+    }
+
+    // A new volume with every sector in version 1.
+    pub fn filled<S: Shelf + Drop>(
+        self,
+        shelf: S,
+        backup: u32,
+        size: u64,
+    ) -> Result<Volume<S, Stock>, Refused> {
+        let (mut volume, created) = self.create(shelf, backup, size);
+        created?;
+        for sector in 0..size {
+            put(&mut volume, sector, 1)?;
+        }
+        Ok(volume)
+    }
+}
+
+// Left-symmetric parity of chunk 1 and this depth, on 3 members and then on 4.
+pub fn wider(depth: u64) -> Result<Ends, Refusal> {
+    Ends::new(parity(3, 1, depth), parity(4, 1, depth))
 }
 
 // The bytes of so many images of a shelf.
@@ -64,185 +135,137 @@ pub fn pattern(sector: u64, version: u64) -> Sector {
     }
     let [s0, s1, ..] = sector.to_le_bytes();
     let [v0, v1, ..] = version.to_le_bytes();
-    out[0] = s0;
-    out[1] = s1;
-    out[2] = v0;
-    out[3] = v1;
+    out[..4].copy_from_slice(&[s0, s1, v0, v1]);
     out
-}
-
-pub fn same(a: &Sector, b: &Sector) -> bool {
-    for (i, byte) in a.iter().enumerate() {
-        if *byte != b[i] {
-            return false;
-        }
-    }
-    true
 }
 
 // Whether sector `at` of a run of bytes, counted in sectors, is the pattern of this version of sector 0.
 pub fn lies_at(run: &[u8], at: usize, version: u64) -> bool {
-    if at >= run.len() / SECTOR {
-        return false;
-    }
-    let from = at * SECTOR;
-    let mut out = zeros();
-    out.copy_from_slice(&run[from..from + SECTOR]);
-    same(&out, &pattern(0, version))
-}
-
-// The number of an answer: 0 where the call was done.
-pub fn number<T: Drop>(res: Result<T, Refused>) -> u64 {
-    match res {
-        Ok(_) => 0,
-        Err(refused) => u64::from(refused.refusal.number()),
-    }
-}
-
-pub fn begin<S: Shelf>(volume: &mut Volume<S, Stock>) -> u64 {
-    number(volume.begin())
-}
-
-pub fn keep<S: Shelf>(volume: &mut Volume<S, Stock>) -> u64 {
-    number(volume.keep())
-}
-
-pub fn finish<S: Shelf>(volume: &mut Volume<S, Stock>) -> u64 {
-    number(volume.finish())
+    run.get(at.saturating_mul(SECTOR)..)
+        .and_then(|rest| rest.first_chunk::<SECTOR>())
+        .is_some_and(|sector| *sector == pattern(0, version))
 }
 
 // Writes a version of a sector.
-pub fn put<S: Shelf>(volume: &mut Volume<S, Stock>, sector: u64, version: u64) -> u64 {
-    number(volume.write(sector, &pattern(sector, version)))
+pub fn put<S: Shelf>(
+    volume: &mut Volume<S, Stock>,
+    sector: u64,
+    version: u64,
+) -> Result<(), Refused> {
+    volume.write(sector, &pattern(sector, version))
 }
 
 // Whether a sector is read back as this version.
 pub fn shows<S: Shelf>(volume: &mut Volume<S, Stock>, sector: u64, version: u64) -> bool {
     let mut content = zeros();
-    volume.read(sector, &mut content).is_ok() && same(&content, &pattern(sector, version))
+    volume.read(sector, &mut content).is_ok() && content == pattern(sector, version)
 }
 
-// How many sectors are not as they should be: of this version the changed one, and of version 1 all others.
-// A volume that is shut has one wrong sector.
-pub fn wrong<S: Shelf>(volume: &mut Volume<S, Stock>, changed: u64, version: u64) -> u64 {
-    let mut count: u64 = 0;
-    for sector in 0..volume.size().max(1) {
-        let due = if sector == changed { version } else { 1 };
-        if !shows(volume, sector, due) {
-            count = count.saturating_add(1);
-        }
-    }
-    count
+// How many sectors are not in version 1. A volume that is shut has one wrong sector.
+pub fn wrong<S: Shelf>(volume: &mut Volume<S, Stock>) -> usize {
+    wrong_beside(volume, 0, 1)
 }
 
-// A new volume with every sector in version 1. Where it is refused it is shut, and shows nothing.
-pub fn filled<S: Shelf>(
-    shelf: S,
-    source: Stock,
-    target: Stock,
-    backup: u32,
-    size: u64,
-) -> Volume<S, Stock> {
-    let (mut volume, _) = Volume::create(shelf, source, target, backup, size);
-    for sector in 0..size {
-        put(&mut volume, sector, 1);
-    }
-    volume
+// The same where one sector was changed to this version.
+pub fn wrong_beside<S: Shelf>(volume: &mut Volume<S, Stock>, changed: u64, version: u64) -> usize {
+    (0..volume.size().max(1))
+        .filter(|&sector| {
+            let due = if sector == changed { version } else { 1 };
+            !shows(volume, sector, due)
+        })
+        .count()
 }
 
 // Copies the next row and settles it.
 pub fn settle_next<S: Shelf>(volume: &mut Volume<S, Stock>) -> Result<(), Refused> {
-    match volume.copy() {
-        Ok(grant) => volume.settle(grant),
-        Err(refused) => Err(refused),
-    }
+    let grant = volume.copy()?;
+    volume.settle(grant)
 }
 
 // Copies the next row and hands it back.
-pub fn try_copy<S: Shelf>(volume: &mut Volume<S, Stock>) -> u64 {
-    match volume.copy() {
-        Ok(grant) => number(volume.hand_back(grant)),
-        Err(refused) => u64::from(refused.refusal.number()),
-    }
+pub fn try_copy<S: Shelf>(volume: &mut Volume<S, Stock>) -> Result<(), Refused> {
+    let grant = volume.copy()?;
+    volume.hand_back(grant)
 }
 
-// Goes on until so many target rows are settled, keeping no more source rows than that needs. Answers the rows settled.
-pub fn walk_on<S: Shelf>(volume: &mut Volume<S, Stock>, rows: u64) -> u64 {
+// Goes on until so many target rows are settled, keeping no more source rows than that needs.
+pub fn walk_on<S: Shelf>(volume: &mut Volume<S, Stock>, rows: u64) -> Result<(), Refused> {
+    // more turns than any move takes here
     for _ in 0..64u64 {
         if volume.settled() >= rows {
             break;
         }
-        if number(settle_next(volume)) == 5 {
-            keep(volume);
+        match settle_next(volume) {
+            Err(refused) if refused.refusal == Refusal::NeedNotKept => volume.keep()?,
+            settled => settled?,
         }
     }
-    volume.settled()
+    Ok(())
 }
 
-// The grant of row 0 of some other volume, if all goes well.
-pub fn stray_grant(heap: Global) -> Option<Grant> {
-    let (source, target) = wider(2).ok()?;
-    let shelf = plain(heap, 4, 7).ok()?;
-    let (mut volume, _) = Volume::create(shelf, source, target, 2, 0);
-    begin(&mut volume);
-    volume.copy().ok()
-}
-
-// What a settle of a stray grant answers; 0 stands for no grant, too.
-pub fn settle_stray<S: Shelf>(heap: Global, volume: &mut Volume<S, Stock>) -> u64 {
-    match stray_grant(heap) {
-        Some(grant) => number(volume.settle(grant)),
-        None => 0,
-    }
+// The grant of row 0 of some other volume.
+pub fn stray_grant(heap: Global) -> Result<Grant, Fail> {
+    let (mut volume, _) = wider(2)?.create(plain(heap, 4, 7)?, 2, 0);
+    volume.begin()?;
+    Ok(volume.copy()?)
 }
 
 // The move of parity from 3 members to 4 on a shelf that loses nothing: depth 8, 4 slots, 16 sectors, each in version 1.
 pub fn plain_move(heap: Global) -> Result<Volume<PlainShelf, Stock>, Fail> {
-    let (source, target) = wider(8)?;
-    Ok(filled(plain(heap, 4, 15)?, source, target, 4, 16))
+    Ok(wider(8)?.filled(plain(heap, 4, 15)?, 4, 16)?)
 }
 
 // The same on a trial shelf.
 pub fn trial_move(heap: Global) -> Result<Volume<TrialShelf, Stock>, Fail> {
-    let (source, target) = wider(8)?;
-    Ok(filled(trial(heap, 4, 15)?, source, target, 4, 16))
+    Ok(wider(8)?.filled(trial(heap, 4, 15)?, 4, 16)?)
 }
 
 // Has a member be found absent at its next operation.
-pub fn lose(volume: &mut Volume<TrialShelf, Stock>, member: u64) {
-    let _ = volume.shelf_mut().lose(member);
+pub fn lose(volume: &mut Volume<TrialShelf, Stock>, member: u64) -> Answer {
+    volume.shelf_mut().lose(member)
 }
 
-// A head with these numbers, if they are in the ranges of a head.
-pub fn forged(
-    number: u64,
-    source: Label,
-    progress: Progress,
-    size: u64,
-    backup: u32,
-    armed: Option<u64>,
-) -> Option<Head> {
-    if number < 1 || number > MOST_NUMBER || backup < 1 || backup > MOST_BACKUP {
-        return None;
+// The fields of a head, whether or not they are in the ranges of one.
+#[derive(Clone, Copy)]
+pub struct Draft {
+    pub number: u64,
+    pub source: Label,
+    pub progress: Progress,
+    pub size: u64,
+    pub backup: u32,
+    pub armed: Option<u64>,
+}
+
+impl Draft {
+    pub fn head(self) -> Result<Head, Fail> {
+        let Draft {
+            number,
+            source,
+            progress,
+            size,
+            backup,
+            armed,
+        } = self;
+        if number < 1 || number > MOST_NUMBER || backup < 1 || backup > MOST_BACKUP {
+            return Err(Fail::new("no head has these numbers"));
+        }
+        Ok(Head {
+            number,
+            source,
+            progress,
+            size,
+            backup,
+            armed,
+        })
     }
-    Some(Head {
-        number,
-        source,
-        progress,
-        size,
-        backup,
-        armed,
-    })
 }
 
 // Writes a head to every member.
-pub fn put_heads<S: Shelf>(shelf: &mut S, head: Option<Head>) {
-    let Some(head) = head else {
-        return;
-    };
+pub fn put_heads<S: Shelf>(shelf: &mut S, head: &Head) -> Result<(), Failure> {
     let bytes = head.encode();
     for member in 0..shelf.members() {
-        shelf.write(member, 0, &bytes);
-        shelf.flush(member);
+        shelf.write(member, 0, &bytes)?;
+        shelf.flush(member)?;
     }
+    Ok(())
 }

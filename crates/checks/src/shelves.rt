@@ -1,14 +1,12 @@
 // The shelves themselves: the fuse, the choice word, losses and ranges.
-use crate::setup::{bytes, laid, lies_at, number, pattern, same, trial};
+use crate::setup::{Ends, answered, bytes, lies_at, pattern, striped, trial};
 use answer::Refusal;
-use layout::Layout;
-use sector::zeros;
+use sector::{SECTOR, zeros};
 use shelf::plain::PlainShelf;
 use shelf::trial::TrialShelf;
-use shelf::{Answer, Shelf};
-use std::alloc::{AllocError, Global};
+use shelf::{Answer, Failure, Shelf};
+use std::alloc::Global;
 use std::test::Fail;
-use volume::Volume;
 
 // Writes a version of sector 0 anywhere on a shelf.
 fn put<S: Shelf>(shelf: &mut S, member: u64, sector: u64, version: u64) -> Answer {
@@ -18,7 +16,7 @@ fn put<S: Shelf>(shelf: &mut S, member: u64, sector: u64, version: u64) -> Answe
 // Whether a sector of a shelf is read as this version of sector 0.
 fn holds<S: Shelf>(shelf: &mut S, member: u64, sector: u64, version: u64) -> bool {
     let mut content = zeros();
-    shelf.read(member, sector, &mut content) == Answer::Done && same(&content, &pattern(0, version))
+    shelf.read(member, sector, &mut content) == Ok(()) && content == pattern(0, version)
 }
 
 // Whether a read, a write and a flush all answer this, and the read leaves its buffer.
@@ -26,7 +24,7 @@ fn all_answer<S: Shelf>(shelf: &mut S, member: u64, sector: u64, due: Answer) ->
     let old = pattern(0, 9);
     let mut content = old;
     shelf.read(member, sector, &mut content) == due
-        && same(&content, &old)
+        && content == old
         && shelf.write(member, sector, &content) == due
         && shelf.flush(member) == due
 }
@@ -36,9 +34,9 @@ fn all_answer<S: Shelf>(shelf: &mut S, member: u64, sector: u64, due: Answer) ->
 fn fuse_cuts(rt: HostRuntime) -> Result<(), Fail> {
     let mut shelf = trial(rt.alloc(), 2, 2)?;
     shelf.set_fuse(1);
-    let answered = put(&mut shelf, 0, 0, 1) == Answer::Done
-        && put(&mut shelf, 0, 1, 2) == Answer::Off;
-    let off = answered && !shelf.is_on() && all_answer(&mut shelf, 0, 0, Answer::Off);
+    let answered = put(&mut shelf, 0, 0, 1) == Ok(())
+        && put(&mut shelf, 0, 1, 2) == Err(Failure::Off);
+    let off = answered && !shelf.is_on() && all_answer(&mut shelf, 0, 0, Err(Failure::Off));
     let run = shelf.into_bytes();
     // the settled image, then the current one
     assert!(rt;
@@ -52,13 +50,13 @@ fn fuse_cuts(rt: HostRuntime) -> Result<(), Fail> {
 
 // With 20 sectors to a member, sectors 12 and 13 of member 1 have the bits of sectors 0 and 1 of member 0.
 // Tells whether each comes out of a restart as it was written; what was flushed before is not at stake.
-fn chosen(heap: Global, choice: u32) -> Result<[bool; 4], AllocError> {
+fn chosen(heap: Global, choice: u32) -> Result<[bool; 4], Fail> {
     let mut shelf = trial(heap, 2, 20)?;
-    put(&mut shelf, 0, 0, 1);
-    shelf.flush(0);
-    put(&mut shelf, 0, 1, 2);
-    put(&mut shelf, 1, 12, 3);
-    put(&mut shelf, 1, 13, 4);
+    put(&mut shelf, 0, 0, 1)?;
+    shelf.flush(0)?;
+    put(&mut shelf, 0, 1, 2)?;
+    put(&mut shelf, 1, 12, 3)?;
+    put(&mut shelf, 1, 13, 4)?;
     shelf.set_choice(choice);
     shelf.restart();
     Ok([
@@ -71,14 +69,12 @@ fn chosen(heap: Global, choice: u32) -> Result<[bool; 4], AllocError> {
 
 #[test]
 fn choice_by_bit(rt: HostRuntime) -> Result<(), Fail> {
-    for &(choice, due) in [
+    for (choice, due) in [
         (0, [true, false, false, false]),
         (1, [true, false, true, false]),
         (2, [true, true, false, true]),
         (0xffff_ffff, [true, true, true, true]),
-    ]
-    .iter()
-    {
+    ] {
         assert_eq!(rt; chosen(rt.alloc(), choice)?, due);
     }
     Ok(())
@@ -88,10 +84,10 @@ fn choice_by_bit(rt: HostRuntime) -> Result<(), Fail> {
 #[test]
 fn losses_show(rt: HostRuntime) -> Result<(), Fail> {
     let mut shelf = trial(rt.alloc(), 3, 2)?;
-    put(&mut shelf, 1, 0, 1);
+    put(&mut shelf, 1, 0, 1)?;
     let lost = shelf.lose(1).is_ok() && shelf.lose(3).is_err();
     let early = holds(&mut shelf, 0, 0, 0) && shelf.is_present(1);
-    let late = all_answer(&mut shelf, 1, 0, Answer::Absent)
+    let late = all_answer(&mut shelf, 1, 0, Err(Failure::Absent))
         && !shelf.is_present(1)
         && shelf.is_present(2);
     shelf.restart();
@@ -106,18 +102,16 @@ fn losses_show(rt: HostRuntime) -> Result<(), Fail> {
 
 // Whether all operations out of range are refused, on a shelf of 2 members with 3 sectors.
 fn refuses_ranges<S: Shelf>(shelf: &mut S) -> bool {
-    let mut short = [7u8; 511];
-    let mut all = shelf.read(0, 0, &mut short) == Answer::Refused
-        && shelf.write(0, 0, &short) == Answer::Refused;
-    for &(member, sector) in [(2, 0), (u64::MAX, 0)].iter() {
-        all = all && all_answer(shelf, member, sector, Answer::Refused);
-    }
-    for &(member, sector) in [(0, 3), (1, u64::MAX)].iter() {
-        all = all
-            && put(shelf, member, sector, 1) == Answer::Refused
-            && !holds(shelf, member, sector, 0);
-    }
-    all
+    let out = Err(Failure::OutOfRange);
+    let mut short = [7u8; SECTOR - 1];
+    shelf.read(0, 0, &mut short) == out
+        && shelf.write(0, 0, &short) == out
+        && all_answer(shelf, 2, 0, out)
+        && all_answer(shelf, u64::MAX, 0, out)
+        && put(shelf, 0, 3, 1) == out
+        && !holds(shelf, 0, 3, 0)
+        && put(shelf, 1, u64::MAX, 1) == out
+        && !holds(shelf, 1, u64::MAX, 0)
 }
 
 // What is out of range burns no fuse and changes nothing.
@@ -125,60 +119,53 @@ fn refuses_ranges<S: Shelf>(shelf: &mut S) -> bool {
 fn ranges(rt: HostRuntime) -> Result<(), Fail> {
     let mut shelf = trial(rt.alloc(), 2, 3)?;
     shelf.set_fuse(0);
-    let refused = refuses_ranges(&mut shelf) && shelf.is_on();
+    assert!(rt; refuses_ranges(&mut shelf) && shelf.is_on());
     let run = shelf.into_bytes();
-    let mut lying = refused;
     for at in 0..12usize {
-        lying = lying && lies_at(&run, at, 0);
+        assert!(rt; lies_at(&run, at, 0));
     }
-    assert!(rt; lying);
     Ok(())
 }
 
-// The number of a verdict on a shelf's size.
-fn verdict(res: Result<(), Refusal>) -> u64 {
-    match res {
-        Ok(()) => 0,
-        Err(refusal) => u64::from(refusal.number()),
-    }
-}
-
-const SIZES: [(u64, u64, usize, u64); 11] = [
-    (2, 1, 1024, 0),
-    (16, 1, 8192, 0),
-    (2, 33_554_432, 34_359_738_368, 0),
-    (2, 1, 1023, 11),
-    (2, 1, 1025, 11),
-    (2, 1, 0, 11),
-    (1, 2, 1024, 11),
-    (17, 1, 8704, 11),
-    (2, 0, 0, 11),
-    (2, 33_554_433, 34_359_739_392, 11),
-    (u64::MAX, u64::MAX, 512, 11),
+// The members and sectors of a shelf and the bytes of its run, and whether they fit.
+const SIZES: [(u64, u64, usize, Result<(), Refusal>); 11] = [
+    (2, 1, 1024, Ok(())),
+    (16, 1, 8192, Ok(())),
+    (2, 33_554_432, 34_359_738_368, Ok(())),
+    (2, 1, 1023, Err(Refusal::OutOfLimits)),
+    (2, 1, 1025, Err(Refusal::OutOfLimits)),
+    (2, 1, 0, Err(Refusal::OutOfLimits)),
+    (1, 2, 1024, Err(Refusal::OutOfLimits)),
+    (17, 1, 8704, Err(Refusal::OutOfLimits)),
+    (2, 0, 0, Err(Refusal::OutOfLimits)),
+    (2, 33_554_433, 34_359_739_392, Err(Refusal::OutOfLimits)),
+    (u64::MAX, u64::MAX, 512, Err(Refusal::OutOfLimits)),
 ];
 
 // Whether a run of so many bytes fits both shelves, in two images for the trial shelf.
 #[test]
 fn sizes(rt: HostRuntime) {
-    for &(members, sectors, count, due) in SIZES.iter() {
-        let one = verdict(PlainShelf::fits(members, sectors, count));
-        let two = verdict(TrialShelf::fits(members, sectors, count.saturating_mul(2)));
-        assert_eq!(rt; [one, two], [due, due]);
+    for (members, sectors, count, due) in SIZES {
+        assert_eq!(rt; PlainShelf::fits(members, sectors, count), due);
+        assert_eq!(rt;
+            TrialShelf::fits(members, sectors, count.saturating_mul(2)),
+            due
+        );
     }
 }
 
 // The shelf that is made all the same has 2 members without sectors; create and open refuse it.
 #[test]
 fn misfits(rt: HostRuntime) -> Result<(), Fail> {
-    let layout = laid(1, 2, 1, 1, 1)?;
-    for &(members, sectors) in [(1, 2), (17, 1), (2, 33_554_433), (2, 0), (3, 1)].iter() {
+    let ends = Ends::still(striped(2, 1, 1))?;
+    for (members, sectors) in [(1, 2), (17, 1), (2, 33_554_433), (2, 0), (3, 1)] {
         let shelf = TrialShelf::new(members, sectors, bytes(rt.alloc(), 2, 1, 2)?);
-        let made = (shelf.members(), shelf.sectors());
-        let (shut, created) = Volume::create(shelf, layout, layout, 1, 0);
-        let (_, opened) = Volume::open(shut.into_shelf(), layout, layout);
+        assert_eq!(rt; (shelf.members(), shelf.sectors()), (2, 0));
+        let (shut, created) = ends.create(shelf, 1, 0);
+        let (_, opened) = ends.open(shut.into_shelf());
         assert_eq!(rt;
-            [made.0, made.1, number(created), number(opened)],
-            [2, 0, 11, 12]
+            [answered(created), answered(opened)],
+            [Err(Refusal::OutOfLimits), Err(Refusal::NoHead)]
         );
     }
     Ok(())

@@ -1,8 +1,9 @@
 // Heads that no run of calls has left: labels and numbers that do not fit, and the last checkpoint numbers.
-use crate::refusals::in_hand;
+use crate::refusals::{InHand, WHILE_HELD};
 use crate::setup::{
-    NONE, begin, finish, forged, keep, laid, number, plain, put, put_heads, trial, try_copy, wider,
+    Answer, Draft, Ends, answered, laid, parity, plain, put, put_heads, trial, try_copy, wider,
 };
+use answer::Refusal;
 use head::{MOST_NUMBER, Progress};
 use kinds::stock::Stock;
 use layout::Layout;
@@ -11,95 +12,166 @@ use std::alloc::Global;
 use std::test::Fail;
 use volume::Volume;
 
-const MAX: u64 = u64::MAX;
+// How far a move has come, by its settled and its kept rows; no move without them.
+type Rows = Option<(u64, u64)>;
+
+fn progress(target: Stock, rows: Rows) -> Progress {
+    match rows {
+        Some((settled, kept)) => Progress::Moving {
+            target: target.label(),
+            settled,
+            kept,
+        },
+        None => Progress::Idle,
+    }
+}
 
 // what open is given in place of the layouts that the head names
-#[derive(Clone, Copy)]
+#[derive(Clone, Copy, PartialEq, Eq, Debug)]
 enum Given {
     Both,
     OtherSource,
     OtherTarget,
 }
 
-// How far a move has come, to a layout; no rows at all stand for no move.
-fn progress(target: Stock, settled: u64, kept: u64) -> Progress {
-    if settled == NONE && kept == NONE {
-        return Progress::Idle;
-    }
-    Progress::Moving {
-        target: target.label(),
-        settled,
-        kept,
-    }
-}
-
-// What an open answers for a head with these rows, size, slots and logged sector, on a shelf of 4 members with 15 sectors.
-fn judged(
-    heap: Global,
+// a head on a shelf of 4 members with 15 sectors, and what it is opened with
+#[derive(Clone, Copy, PartialEq, Eq, Debug)]
+struct Case {
     given: Given,
-    rows: (u64, u64),
+    rows: Rows,
     size: u64,
     backup: u32,
-    logged: u64,
-) -> Result<u64, Fail> {
-    let (source, target) = wider(8)?;
-    let other = laid(2, 3, 1, 2, 8)?;
-    let armed = if logged == NONE { None } else { Some(logged) };
-    let mut shelf = plain(heap, 4, 15)?;
-    put_heads(
-        &mut shelf,
-        forged(
-            7,
-            source.label(),
-            progress(target, rows.0, rows.1),
-            size,
-            backup,
-            armed,
-        ),
-    );
-    let (_, result) = match given {
-        Given::Both => Volume::open(shelf, source, target),
-        Given::OtherSource => Volume::open(shelf, other, target),
-        Given::OtherTarget => Volume::open(shelf, source, other),
-    };
-    Ok(number(result))
+    armed: Option<u64>,
 }
 
-const IDLE: (u64, u64) = (NONE, NONE);
+// What an open answers for it.
+fn judged(heap: Global, case: Case) -> Result<Answer, Fail> {
+    let ends = wider(8)?;
+    let other = laid(parity(3, 2, 8))?;
+    let draft = Draft {
+        number: 7,
+        source: ends.source.label(),
+        progress: progress(ends.target, case.rows),
+        size: case.size,
+        backup: case.backup,
+        armed: case.armed,
+    };
+    let mut shelf = plain(heap, 4, 15)?;
+    put_heads(&mut shelf, &draft.head()?)?;
+    let given = match case.given {
+        Given::Both => ends,
+        Given::OtherSource => Ends {
+            source: other,
+            ..ends
+        },
+        Given::OtherTarget => Ends {
+            target: other,
+            ..ends
+        },
+    };
+    let (_, opened) = given.open(shelf);
+    Ok(answered(opened))
+}
 
-const HEADS: [(Given, (u64, u64), u64, u32, u64, u64); 19] = [
-    (Given::Both, IDLE, 16, 4, NONE, 0),
-    (Given::OtherTarget, IDLE, 16, 4, NONE, 0),
-    (Given::OtherSource, IDLE, 16, 4, NONE, 13),
-    (Given::OtherTarget, (0, 0), 16, 4, NONE, 13),
+const IDLE: Case = Case {
+    given: Given::Both,
+    rows: None,
+    size: 16,
+    backup: 4,
+    armed: None,
+};
+
+// every row settled and kept
+const DONE: Case = Case {
+    rows: Some((8, 8)),
+    ..IDLE
+};
+
+const FITTING: [Case; 6] = [
+    IDLE,
+    Case {
+        given: Given::OtherTarget,
+        ..IDLE
+    },
+    Case {
+        armed: Some(15),
+        ..IDLE
+    },
+    DONE,
+    Case {
+        rows: Some((0, 2)),
+        ..IDLE
+    },
+    Case { size: 15, ..DONE },
+];
+
+const OTHERS: [Case; 3] = [
+    Case {
+        given: Given::OtherSource,
+        ..IDLE
+    },
+    Case {
+        given: Given::OtherTarget,
+        rows: Some((0, 0)),
+        ..IDLE
+    },
     // 13 before 14
-    (Given::OtherSource, IDLE, 17, 4, NONE, 13),
-    (Given::Both, IDLE, 17, 4, NONE, 14),
-    (Given::Both, IDLE, MAX, 4, NONE, 14),
-    (Given::Both, IDLE, 16, 5, NONE, 14),
-    (Given::Both, IDLE, 16, 4, 15, 0),
-    (Given::Both, IDLE, 16, 4, 16, 14),
-    (Given::Both, (8, 8), 16, 4, NONE, 0),
-    (Given::Both, (9, 8), 16, 4, NONE, 14),
-    (Given::Both, (MAX, 8), 16, 4, NONE, 14),
-    (Given::Both, (8, 9), 16, 4, NONE, 14),
-    (Given::Both, (0, MAX), 16, 4, NONE, 14),
-    (Given::Both, (0, 2), 16, 4, NONE, 0),
-    (Given::Both, (0, 3), 16, 4, NONE, 14),
-    (Given::Both, (8, 8), 15, 4, NONE, 0),
-    (Given::Both, (8, 8), 14, 4, NONE, 14),
+    Case {
+        given: Given::OtherSource,
+        size: 17,
+        ..IDLE
+    },
+];
+
+const MISFITS: [Case; 10] = [
+    Case { size: 17, ..IDLE },
+    Case {
+        size: u64::MAX,
+        ..IDLE
+    },
+    Case { backup: 5, ..IDLE },
+    Case {
+        armed: Some(16),
+        ..IDLE
+    },
+    Case {
+        rows: Some((9, 8)),
+        ..IDLE
+    },
+    Case {
+        rows: Some((u64::MAX, 8)),
+        ..IDLE
+    },
+    Case {
+        rows: Some((8, 9)),
+        ..IDLE
+    },
+    Case {
+        rows: Some((0, u64::MAX)),
+        ..IDLE
+    },
+    Case {
+        rows: Some((0, 3)),
+        ..IDLE
+    },
+    Case { size: 14, ..DONE },
 ];
 
 #[test]
 fn heads_that_do_not_fit(rt: HostRuntime) -> Result<(), Fail> {
-    for &(given, rows, size, backup, logged, due) in HEADS.iter() {
+    for case in FITTING {
+        assert_eq!(rt; (case, judged(rt.alloc(), case)?), (case, Ok(())));
+    }
+    for case in OTHERS {
         assert_eq!(rt;
-            (
-                rows,
-                size,
-                judged(rt.alloc(), given, rows, size, backup, logged)?,
-            ),
-            (rows, size, due)
+            (case, judged(rt.alloc(), case)?),
+            (case, Err(Refusal::LabelsDiffer))
+        );
+    }
+    for case in MISFITS {
+        assert_eq!(rt;
+            (case, judged(rt.alloc(), case)?),
+            (case, Err(Refusal::HeadMisfit))
         );
     }
     Ok(())
@@ -108,82 +180,144 @@ fn heads_that_do_not_fit(rt: HostRuntime) -> Result<(), Fail> {
 // A layout of 4 members does not fit a shelf of 3, whatever is lost; and lost members go before spent numbers.
 #[test]
 fn open_order(rt: HostRuntime) -> Result<(), Fail> {
-    for &(members, size, lost, due) in [
-        (4, 8, 2, 14),
-        (3, 9, 2, 14),
-        (3, 8, 2, 15),
-        (3, 8, 1, 17),
-    ].iter()
-    {
-        let layout = laid(2, members, 1, 1, 4)?;
+    for (members, size, lost, due) in [
+        (4, 8, 2, Refusal::HeadMisfit),
+        (3, 9, 2, Refusal::HeadMisfit),
+        (3, 8, 2, Refusal::MembersLost),
+        (3, 8, 1, Refusal::NumbersSpent),
+    ] {
+        let ends = Ends::still(parity(members, 1, 4))?;
+        let draft = Draft {
+            number: MOST_NUMBER,
+            source: ends.source.label(),
+            progress: Progress::Idle,
+            size,
+            backup: 2,
+            armed: Some(0),
+        };
         let mut shelf = trial(rt.alloc(), 3, 9)?;
-        put_heads(
-            &mut shelf,
-            forged(
-                MOST_NUMBER,
-                layout.label(),
-                Progress::Idle,
-                size,
-                2,
-                Some(0),
-            ),
-        );
+        put_heads(&mut shelf, &draft.head()?)?;
         for member in 0..lost {
-            let _ = shelf.lose(member);
+            shelf.lose(member)?;
         }
-        let (_, result) = Volume::open(shelf, layout, layout);
-        assert_eq!(rt; number(result), due);
+        let (_, opened) = ends.open(shelf);
+        assert_eq!(rt; answered(opened), Err(due));
     }
     Ok(())
 }
 
 // The move from 3 members to 4 of 16 sectors with 4 slots, with so many checkpoint numbers left.
-fn aged(heap: Global, left: u64, rows: (u64, u64)) -> Result<Volume<PlainShelf, Stock>, Fail> {
-    let (source, target) = wider(8)?;
+fn aged(heap: Global, left: u64, rows: Rows) -> Result<Volume<PlainShelf, Stock>, Fail> {
+    let ends = wider(8)?;
+    let draft = Draft {
+        number: MOST_NUMBER.saturating_sub(left),
+        source: ends.source.label(),
+        progress: progress(ends.target, rows),
+        size: 16,
+        backup: 4,
+        armed: None,
+    };
     let mut shelf = plain(heap, 4, 15)?;
-    let count = MOST_NUMBER.saturating_sub(left);
-    put_heads(
-        &mut shelf,
-        forged(
-            count,
-            source.label(),
-            progress(target, rows.0, rows.1),
-            16,
-            4,
-            None,
-        ),
-    );
-    let (volume, _) = Volume::open(shelf, source, target);
+    put_heads(&mut shelf, &draft.head()?)?;
+    let (volume, opened) = ends.open(shelf);
+    opened?;
     Ok(volume)
 }
 
-// What a write, a begin, a keep, a copy and a finish answer then.
-fn aged_answers(heap: Global, left: u64, rows: (u64, u64)) -> Result<[u64; 5], Fail> {
-    let mut volume = aged(heap, left, rows)?;
-    Ok([
-        put(&mut volume, 0, 1),
-        begin(&mut volume),
-        keep(&mut volume),
-        try_copy(&mut volume),
-        finish(&mut volume),
-    ])
+// what is asked of it then, one after the other
+#[derive(Clone, Copy, PartialEq, Eq, Debug)]
+struct Asked {
+    write: Answer,
+    begin: Answer,
+    keep: Answer,
+    copy: Answer,
+    finish: Answer,
 }
+
+impl Asked {
+    fn of(heap: Global, left: u64, rows: Rows) -> Result<Asked, Fail> {
+        let mut volume = aged(heap, left, rows)?;
+        Ok(Asked {
+            write: answered(put(&mut volume, 0, 1)),
+            begin: answered(volume.begin()),
+            keep: answered(volume.keep()),
+            copy: answered(try_copy(&mut volume)),
+            finish: answered(volume.finish()),
+        })
+    }
+}
+
+const SPENT: Answer = Err(Refusal::NumbersSpent);
+
+// where begin was the last that was granted
+const BEGUN: Asked = Asked {
+    write: Ok(()),
+    begin: Ok(()),
+    keep: SPENT,
+    copy: Err(Refusal::NeedNotKept),
+    finish: Err(Refusal::RowsLeft),
+};
+
+// where no number is left for a begin
+const UNBEGUN: Asked = Asked {
+    write: Ok(()),
+    begin: SPENT,
+    keep: Err(Refusal::WrongPhase),
+    copy: Err(Refusal::WrongPhase),
+    finish: Err(Refusal::WrongPhase),
+};
+
+// in a move of which every row is settled and kept
+const ENDED: Asked = Asked {
+    write: SPENT,
+    begin: Err(Refusal::WrongPhase),
+    keep: Err(Refusal::AllKept),
+    copy: Err(Refusal::AllSettled),
+    finish: SPENT,
+};
+
+const KEPT: Asked = Asked {
+    write: SPENT,
+    begin: Err(Refusal::WrongPhase),
+    keep: Err(Refusal::BackupFull),
+    copy: Ok(()),
+    finish: Err(Refusal::RowsLeft),
+};
 
 // A write takes two numbers, and a begin, a keep and a finish one. What else is in the way goes first.
 #[test]
 fn last_numbers(rt: HostRuntime) -> Result<(), Fail> {
-    for &(left, rows, due) in [
-        (3, IDLE, [0, 0, 17, 5, 8]),
-        (2, IDLE, [0, 17, 3, 3, 3]),
-        (1, IDLE, [17, 0, 17, 5, 8]),
-        (0, IDLE, [17, 17, 3, 3, 3]),
-        (0, (8, 8), [17, 3, 7, 9, 17]),
-        (1, (8, 8), [17, 3, 7, 9, 0]),
-        (0, (0, 2), [17, 3, 6, 0, 8]),
-    ]
-    .iter()
-    {
-        assert_eq!(rt; aged_answers(rt.alloc(), left, rows)?, due);
+    for (left, rows, due) in [
+        (3, None, BEGUN),
+        (2, None, UNBEGUN),
+        (
+            1,
+            None,
+            Asked {
+                write: SPENT,
+                ..BEGUN
+            },
+        ),
+        (
+            0,
+            None,
+            Asked {
+                write: SPENT,
+                ..UNBEGUN
+            },
+        ),
+        (0, Some((8, 8)), ENDED),
+        (
+            1,
+            Some((8, 8)),
+            Asked {
+                finish: Ok(()),
+                ..ENDED
+            },
+        ),
+        (0, Some((0, 2)), KEPT),
+    ] {
+        assert_eq!(rt; Asked::of(rt.alloc(), left, rows)?, due);
     }
     Ok(())
 }
@@ -191,13 +325,17 @@ fn last_numbers(rt: HostRuntime) -> Result<(), Fail> {
 // With row 1 in hand and no number left: a settle empties the hand all the same.
 #[test]
 fn spent_settle(rt: HostRuntime) -> Result<(), Fail> {
-    let mut volume = aged(rt.alloc(), 0, (1, 2))?;
-    let hand = in_hand(rt.alloc(), &mut volume, 3, 6);
-    assert!(rt;
-        hand == [4, 17, 4, 17, 18, 17]
-            && volume.hand().is_none()
-            && volume.settled() == 1
-            && try_copy(&mut volume) == 0
+    let mut volume = aged(rt.alloc(), 0, Some((1, 2)))?;
+    assert_eq!(rt;
+        InHand::of(rt.alloc(), &mut volume, 3, 6)?,
+        InHand {
+            outside: SPENT,
+            keep: SPENT,
+            own: SPENT,
+            ..WHILE_HELD
+        }
     );
+    assert_eq!(rt; (volume.hand(), volume.settled()), (None, 1));
+    try_copy(&mut volume)?;
     Ok(())
 }

@@ -8,11 +8,13 @@
 
 use kinds::stock::Stock;
 use layout::Layout;
+use layout::kind::Kind;
 use layout::label::Label;
 use layout::place::{Owner, Place};
+use std::str::FromStr;
 
 // how a recording compares
-#[derive(Clone, Copy, PartialEq, Eq, Debug)]
+#[derive(Clone, Copy, Default, PartialEq, Eq, Debug)]
 pub struct Comparison {
     // copies and parities that were compared, sector by sector
     pub data: u64,
@@ -39,19 +41,20 @@ struct Recorded {
     capacity: u64,
 }
 
-fn number(word: Option<&str>) -> Option<u64> {
-    match word?.parse::<u64>() {
-        Ok(n) => Some(n),
-        Err(_) => None,
-    }
+fn number<N: FromStr>(word: Option<&str>) -> Option<N>
+where
+    N::Err: Drop,
+{
+    word?.parse().ok()
 }
 
-fn kind_of(word: &str) -> Option<u8> {
+// The kind that a recording names.
+fn kind_of(word: &str) -> Option<Kind> {
     match word {
-        "striped" => Some(1),
-        "parity" => Some(2),
-        "near" => Some(3),
-        "far" => Some(4),
+        "striped" => Some(Kind::Striped),
+        "parity" => Some(Kind::LeftSymmetric),
+        "near" => Some(Kind::Near),
+        "far" => Some(Kind::Far),
         _ => None,
     }
 }
@@ -65,61 +68,44 @@ fn first_line(line: &str) -> Option<Recorded> {
     let kind = kind_of(words.next()?)?;
     let members = number(words.next())?;
     let copies = number(words.next())?;
-    let chunk = number(words.next())?;
-    let offered = number(words.next())?;
+    let chunk = number::<u32>(words.next())?;
+    let offered = number::<u64>(words.next())?;
     let capacity = number(words.next())?;
-    if members > 16 || copies > 16 || chunk < 1 || chunk > 2048 {
-        return None;
-    }
-    let label = Label {
-        kind,
-        members: members as u8,
-        copies: copies as u8,
-        reserved: 0,
-        chunk: chunk as u32,
-        depth: offered - offered % chunk,
-    };
-    let layout = Stock::from_label(&label).ok()?;
+    let depth = offered - offered.checked_rem(u64::from(chunk))?;
+    let label = Label::stock(kind, members, copies, chunk, depth);
     Some(Recorded {
-        layout,
-        chunk,
+        layout: Stock::from_label(&label).ok()?,
+        chunk: u64::from(chunk),
         capacity,
     })
 }
 
-// How many sectors of a chunk of data do not lie where the recording has them. The place names its owner, and the owner its place.
-fn data_elsewhere(recorded: &Recorded, sector: u64, place: Place) -> u64 {
-    let mut elsewhere: u64 = 0;
-    for i in 0..recorded.chunk {
-        let at = (place.0, place.1.saturating_add(i));
-        let found = match recorded.layout.owner(at) {
-            Owner::Datum {
-                sector: owned,
-                copy,
-            } => owned == sector.saturating_add(i) && recorded.layout.place(owned, copy) == at,
-            _ => false,
-        };
-        if !found {
-            elsewhere = elsewhere.saturating_add(1);
-        }
+// Whether the layout has a sector at a place: the place names its owner, and the owner its place.
+fn has_datum(layout: &Stock, sector: u64, at: Place) -> bool {
+    match layout.owner(at) {
+        Owner::Datum {
+            sector: owned,
+            copy,
+        } => owned == sector && layout.place(owned, copy) == at,
+        _ => false,
     }
-    elsewhere
 }
 
-// The same of a chunk of parity.
-fn parity_elsewhere(recorded: &Recorded, place: Place) -> u64 {
-    let mut elsewhere: u64 = 0;
-    for i in 0..recorded.chunk {
-        let at = (place.0, place.1.saturating_add(i));
-        let found = match recorded.layout.owner(at) {
-            Owner::Parity { group } => recorded.layout.parity(group) == at,
-            _ => false,
-        };
-        if !found {
-            elsewhere = elsewhere.saturating_add(1);
-        }
+// The same of a sector of parity.
+fn has_parity(layout: &Stock, at: Place) -> bool {
+    match layout.owner(at) {
+        Owner::Parity { group } => layout.parity(group) == at,
+        _ => false,
     }
-    elsewhere
+}
+
+// How many sectors of the chunk at a place do not lie where the recording has them; `lies` tells of one, by its number in the chunk.
+fn elsewhere<F: Fn(u64, Place) -> bool>(chunk: u64, place: Place, lies: F) -> u64
+    requires { F.IsAlwaysCallable lies }
+{
+    (0..chunk)
+        .filter(|&i| !lies(i, (place.0, place.1.saturating_add(i))))
+        .count() as u64
 }
 
 // What one line adds; None where it is no line of a recording.
@@ -128,20 +114,22 @@ fn compare_line(recorded: &Recorded, line: &str, so_far: Comparison) -> Option<C
     let mut next = so_far;
     match words.next()? {
         "D" => {
-            let sector = number(words.next())?;
-            let _copy = number(words.next())?;
+            let sector = number::<u64>(words.next())?;
+            let _copy = number::<u64>(words.next())?;
             let place = (number(words.next())?, number(words.next())?);
+            let differing = elsewhere(recorded.chunk, place, |i, at| {
+                has_datum(&recorded.layout, sector.saturating_add(i), at)
+            });
             next.data = next.data.saturating_add(recorded.chunk);
-            next.differing = next
-                .differing
-                .saturating_add(data_elsewhere(recorded, sector, place));
+            next.differing = next.differing.saturating_add(differing);
         }
         "P" => {
             let place = (number(words.next())?, number(words.next())?);
+            let differing = elsewhere(recorded.chunk, place, |_, at| {
+                has_parity(&recorded.layout, at)
+            });
             next.parities = next.parities.saturating_add(recorded.chunk);
-            next.differing = next
-                .differing
-                .saturating_add(parity_elsewhere(recorded, place));
+            next.differing = next.differing.saturating_add(differing);
         }
         "#" => {}
         _ => return None,
@@ -152,10 +140,7 @@ fn compare_line(recorded: &Recorded, line: &str, so_far: Comparison) -> Option<C
 // How many copies and parities the layout has.
 fn expected(layout: &Stock) -> (u64, u64) {
     let data = layout.capacity().saturating_mul(layout.copies());
-    let parities = match layout.group(0) {
-        Some(_) => layout.depth(),
-        None => 0,
-    };
+    let parities = layout.group(0).map_or(0, |_| layout.depth());
     (data, parities)
 }
 
@@ -163,16 +148,11 @@ fn expected(layout: &Stock) -> (u64, u64) {
 pub fn compare(text: &str) -> Option<Comparison> {
     let mut lines = text.lines();
     let recorded = first_line(lines.next()?)?;
-    let mut result = Comparison {
-        data: 0,
-        parities: 0,
-        differing: 0,
-        missing: 0,
+    let start = Comparison {
         same_capacity: recorded.capacity == recorded.layout.capacity(),
+        ..Comparison::default()
     };
-    for line in lines {
-        result = compare_line(&recorded, line, result)?;
-    }
+    let mut result = lines.try_fold(start, |so_far, line| compare_line(&recorded, line, so_far))?;
     let (data, parities) = expected(&recorded.layout);
     result.missing = data
         .abs_diff(result.data)

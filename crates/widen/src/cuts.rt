@@ -1,16 +1,28 @@
 // The power goes in the middle of a call; then the volume is opened again, and what it shows is told.
-use crate::tour::{Tour, tell};
-use kinds::stock::Stock;
+use crate::tour::{Plan, Tour, tell};
+use answer::Refused;
+use anyhow::anyhow;
 use layout::Layout;
-use shelf::Shelf;
 use shelf::trial::TrialShelf;
 use volume::Volume;
 
 // when the power goes, in operations from now, and which unsettled sectors then survive
 #[derive(Clone, Copy)]
 pub struct Cut {
-    pub fuse: u32,
-    pub choice: u32,
+    fuse: u32,
+    choice: u32,
+}
+
+impl Cut {
+    // After so many operations; no unsettled sector survives.
+    pub fn after(fuse: u32) -> Cut {
+        Cut { fuse, choice: 0 }
+    }
+
+    // The same, with these for survivors.
+    pub fn choosing(self, choice: u32) -> Cut {
+        Cut { choice, ..self }
+    }
 }
 
 impl Tour<TrialShelf> {
@@ -22,68 +34,41 @@ impl Tour<TrialShelf> {
 
     // Takes the shelf out of the volume and opens it again with the layouts that its head names.
     pub fn reopened(self, rt: &HostRuntime) -> anyhow::Result<Tour<TrialShelf>> {
-        let Tour {
-            volume,
-            source,
-            target,
-            versions,
-            version,
-            tally,
-            chatty,
-        } = self;
-        let (volume, result) = Volume::open(volume.into_shelf(), source, target);
+        let shelf = self.volume.into_shelf();
+        let (volume, result) = Volume::open(shelf, self.plan.source, self.plan.target);
         let settled = volume.settled();
         let kept = volume.kept();
-        let tour = Tour {
-            volume,
-            source,
-            target,
-            versions,
-            version,
-            tally,
-            chatty,
-        };
-        print!(rt; "open, rows settled {settled}, rows kept {kept}")?;
-        tell(rt, "", &result)?;
+        let tour = Tour { volume, ..self };
+        tell(
+            rt,
+            format_args!("open, rows settled {settled}, rows kept {kept}"),
+            result,
+        )?;
         Ok(tour)
     }
 
     // After finish the target is the layout that the head names; the old source stands by as the next target.
     pub fn turned(self) -> Tour<TrialShelf> {
-        let Tour {
-            volume,
-            source,
-            target,
-            versions,
-            version,
-            tally,
-            chatty,
-        } = self;
-        Tour {
-            volume,
-            source: target,
-            target: source,
-            versions,
-            version,
-            tally,
-            chatty,
-        }
+        let plan = Plan {
+            source: self.plan.target,
+            target: self.plan.source,
+            ..self.plan
+        };
+        Tour { plan, ..self }
     }
 
     // Cuts the power in a write. The next open shows the sector as it was or as it was to be.
     pub fn cut_write(
-        self,
+        mut self,
         rt: &HostRuntime,
         sector: u64,
         cut: Cut,
     ) -> anyhow::Result<Tour<TrialShelf>> {
-        let mut tour = self;
-        let next = tour.next_version();
-        tour.set(cut);
-        print!(rt; "write {sector}, power cut")?;
-        let result = tour.attempt(sector);
-        tell(rt, "", &result)?;
-        let mut opened = tour.reopened(rt)?;
+        let next = self.next_version();
+        self.set(cut);
+        let result = self.attempt(sector);
+        tell(rt, format_args!("write {sector}, power cut"), result)?;
+        let mut opened = self.reopened(rt)?;
         if opened.shows(sector, next) {
             opened.record(sector, next);
             println!(rt; "sector {sector} is as after the write")?;
@@ -94,64 +79,58 @@ impl Tour<TrialShelf> {
         Ok(opened)
     }
 
+    // Copies the next row and hands it back.
+    fn try_copy(&mut self) -> Result<(), Refused> {
+        let grant = self.volume.copy()?;
+        self.volume.hand_back(grant)
+    }
+
     // Keeps source rows until the next target row may be copied.
     fn make_ready(&mut self, rt: &HostRuntime) -> anyhow::Result<()> {
-        for _ in 0..self.source.rows() {
-            let ready = match self.volume.copy() {
-                Ok(grant) => self.volume.hand_back(grant).is_ok(),
-                Err(_) => false,
-            };
-            if ready {
+        for _ in 0..self.plan.source.rows() {
+            if self.try_copy().is_ok() {
                 break;
             }
-            let result = self.volume.keep();
-            let kept = self.volume.kept();
-            print!(rt; "keep, rows kept {kept}")?;
-            tell(rt, "", &result)?;
+            self.keep(rt)?;
         }
         Ok(())
     }
 
     // Cuts the power in a copy. The row is not in hand after the next open.
-    pub fn cut_copy(self, rt: &HostRuntime, cut: Cut) -> anyhow::Result<Tour<TrialShelf>> {
-        let mut tour = self;
-        tour.make_ready(rt)?;
-        tour.set(cut);
-        let result = match tour.volume.copy() {
-            Ok(grant) => tour.volume.hand_back(grant),
-            Err(refused) => Err(refused),
-        };
-        tell(rt, "copy, power cut", &result)?;
-        let mut opened = tour.reopened(rt)?;
+    pub fn cut_copy(mut self, rt: &HostRuntime, cut: Cut) -> anyhow::Result<Tour<TrialShelf>> {
+        self.make_ready(rt)?;
+        self.set(cut);
+        let result = self.try_copy();
+        tell(rt, "copy, power cut", result)?;
+        let mut opened = self.reopened(rt)?;
         opened.check(rt)?;
         Ok(opened)
     }
 
     // Cuts the power in a settle. After the next open the row is settled or it is not.
-    pub fn cut_settle(self, rt: &HostRuntime, cut: Cut) -> anyhow::Result<Tour<TrialShelf>> {
-        let mut tour = self;
-        tour.make_ready(rt)?;
-        match tour.volume.copy() {
+    pub fn cut_settle(mut self, rt: &HostRuntime, cut: Cut) -> anyhow::Result<Tour<TrialShelf>> {
+        self.make_ready(rt)?;
+        match self.volume.copy() {
             Ok(grant) => {
                 let row = grant.row();
-                tour.set(cut);
-                let result = tour.volume.settle(grant);
-                print!(rt; "settle row {row}, power cut")?;
-                tell(rt, "", &result)?;
+                self.set(cut);
+                let result = self.volume.settle(grant);
+                tell(rt, format_args!("settle row {row}, power cut"), result)?;
             }
             Err(refused) => println!(rt; "copy: {refused}")?,
         }
-        let mut opened = tour.reopened(rt)?;
+        let mut opened = self.reopened(rt)?;
         opened.check(rt)?;
         Ok(opened)
     }
 
     // Has a member be lost at its next operation.
     pub fn lose(&mut self, rt: &HostRuntime, member: u64) -> anyhow::Result<()> {
-        match self.volume.shelf_mut().lose(member) {
-            Ok(()) => println!(rt; "member {member} is lost")?,
-            Err(_) => println!(rt; "there is no member {member}")?,
-        }
+        self.volume
+            .shelf_mut()
+            .lose(member)
+            .map_err(|_| anyhow!("there is no member {member}"))?;
+        println!(rt; "member {member} is lost")?;
         Ok(())
     }
 }

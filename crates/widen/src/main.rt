@@ -6,10 +6,11 @@ mod pattern;
 mod steps;
 mod tour;
 
-use anyhow::anyhow;
+use anyhow::{anyhow, bail};
 use cuts::Cut;
 use kinds::stock::Stock;
 use layout::Layout;
+use layout::kind::Kind;
 use layout::label::Label;
 use shelf::plain::PlainShelf;
 use shelf::trial::TrialShelf;
@@ -18,20 +19,17 @@ use tour::{Plan, Tally, Tour};
 
 const SECTORS: u64 = 48;
 
-// A stock layout: its kind, members, copies, chunk and depth.
-fn laid(kind: u8, members: u8, copies: u8, chunk: u32, depth: u64) -> anyhow::Result<Stock> {
-    let label = Label {
-        kind,
-        members,
-        copies,
-        reserved: 0,
-        chunk,
-        depth,
-    };
-    match Stock::from_label(&label) {
-        Ok(layout) => Ok(layout),
-        Err(_) => Err(anyhow!("a label out of limits")),
-    }
+// The layout that a stock label names.
+fn laid(label: Label) -> anyhow::Result<Stock> {
+    Stock::from_label(&label).map_err(|_| anyhow!("a label out of limits"))
+}
+
+fn striped(members: u8, chunk: u32, depth: u64) -> anyhow::Result<Stock> {
+    laid(Label::stock(Kind::Striped, members, 1, chunk, depth))
+}
+
+fn parity(members: u8, chunk: u32, depth: u64) -> anyhow::Result<Stock> {
+    laid(Label::stock(Kind::LeftSymmetric, members, 1, chunk, depth))
 }
 
 fn bytes(heap: Global, members: u64, images: u64) -> Result<Vec<u8>, AllocError> {
@@ -53,8 +51,8 @@ fn trial(rt: &HostRuntime, members: u64) -> anyhow::Result<TrialShelf> {
 // Left-symmetric parity from 3 members to 4.
 fn wider() -> anyhow::Result<Plan> {
     Ok(Plan {
-        source: laid(2, 3, 1, 1, 8)?,
-        target: laid(2, 4, 1, 1, 8)?,
+        source: parity(3, 1, 8)?,
+        target: parity(4, 1, 8)?,
         backup: 4,
         size: 16,
         chatty: true,
@@ -80,50 +78,17 @@ fn widen_trial(rt: &HostRuntime) -> anyhow::Result<Tally> {
     let mut tour = Tour::start(rt, trial(rt, 4)?, wider()?)?;
     tour.begin(rt)?;
     tour.go_on(rt, 3)?;
-    let mut tour = tour.cut_write(
-        rt,
-        15,
-        Cut {
-            fuse: 12,
-            choice: 0,
-        },
-    )?;
+    let mut tour = tour.cut_write(rt, 15, Cut::after(12))?;
     tour.go_on(rt, 1)?;
-    let tour = tour.cut_write(
-        rt,
-        15,
-        Cut {
-            fuse: 23,
-            choice: 0x5555_5555,
-        },
-    )?;
-    let tour = tour.cut_write(
-        rt,
-        4,
-        Cut {
-            fuse: 26,
-            choice: 0,
-        },
-    )?;
-    let mut tour = tour.cut_copy(
-        rt,
-        Cut {
-            fuse: 4,
-            choice: 0x0f0f_0f0f,
-        },
-    )?;
+    let tour = tour.cut_write(rt, 15, Cut::after(23).choosing(0x5555_5555))?;
+    let tour = tour.cut_write(rt, 4, Cut::after(26))?;
+    let mut tour = tour.cut_copy(rt, Cut::after(4).choosing(0x0f0f_0f0f))?;
     tour.go_on(rt, 2)?;
     tour.lose(rt, 1)?;
     tour.go_on(rt, 2)?;
     tour.check(rt)?;
-    let tour = tour.cut_settle(
-        rt,
-        Cut {
-            fuse: 1,
-            choice: 0x3333_3333,
-        },
-    )?;
-    let mut tour = tour.cut_settle(rt, Cut { fuse: 4, choice: 0 })?;
+    let tour = tour.cut_settle(rt, Cut::after(1).choosing(0x3333_3333))?;
+    let mut tour = tour.cut_settle(rt, Cut::after(4))?;
     tour.go_on(rt, 1000)?;
     tour.check(rt)?;
     let mut tour = tour.turned().reopened(rt)?;
@@ -132,22 +97,8 @@ fn widen_trial(rt: &HostRuntime) -> anyhow::Result<Tally> {
 }
 
 // A whole move between two kinds, told shortly.
-fn change(
-    rt: &HostRuntime,
-    name: &str,
-    source: Stock,
-    target: Stock,
-    backup: u32,
-    size: u64,
-) -> anyhow::Result<Tally> {
+fn change(rt: &HostRuntime, name: &str, plan: Plan) -> anyhow::Result<Tally> {
     println!(rt; "{name}")?;
-    let plan = Plan {
-        source,
-        target,
-        backup,
-        size,
-        chatty: false,
-    };
     let mut tour = Tour::start(rt, trial(rt, 5)?, plan)?;
     tour.begin(rt)?;
     tour.go_on(rt, 1000)?;
@@ -156,62 +107,55 @@ fn change(
     Ok(tour.tally)
 }
 
+fn quiet(source: Stock, target: Stock, backup: u32, size: u64) -> Plan {
+    Plan {
+        source,
+        target,
+        backup,
+        size,
+        chatty: false,
+    }
+}
+
 // Moves between other kinds.
 fn change_kinds(rt: &HostRuntime) -> anyhow::Result<Tally> {
-    let striped = laid(1, 3, 1, 2, 8)?;
-    let parity = laid(2, 4, 1, 2, 8)?;
-    let near = laid(3, 5, 2, 2, 8)?;
-    let far = laid(4, 4, 2, 1, 12)?;
-    let a = change(
-        rt,
-        "striped, 3 members, to left-symmetric parity, 4 members",
-        striped,
-        parity,
-        12,
-        24,
-    )?;
-    let b = change(
-        rt,
-        "near, 2 copies on 5 members, to far, 2 copies on 4 members",
-        near,
-        far,
-        20,
-        20,
-    )?;
-    let c = change(
-        rt,
-        "left-symmetric parity, 3 members, chunk 1 to 2",
-        laid(2, 3, 1, 1, 4)?,
-        laid(2, 3, 1, 2, 4)?,
-        4,
-        8,
-    )?;
-    let d = change(
-        rt,
-        "striped, 3 members given back to 2",
-        laid(1, 3, 1, 1, 6)?,
-        laid(1, 2, 1, 1, 6)?,
-        6,
-        12,
-    )?;
-    Ok(a.plus(b).plus(c).plus(d))
+    let near = laid(Label::stock(Kind::Near, 5, 2, 2, 8))?;
+    let far = laid(Label::stock(Kind::Far, 4, 2, 1, 12))?;
+    let mut all = Tally::default();
+    for (name, plan) in [
+        (
+            "striped, 3 members, to left-symmetric parity, 4 members",
+            quiet(striped(3, 2, 8)?, parity(4, 2, 8)?, 12, 24),
+        ),
+        (
+            "near, 2 copies on 5 members, to far, 2 copies on 4 members",
+            quiet(near, far, 20, 20),
+        ),
+        (
+            "left-symmetric parity, 3 members, chunk 1 to 2",
+            quiet(parity(3, 1, 4)?, parity(3, 2, 4)?, 4, 8),
+        ),
+        (
+            "striped, 3 members given back to 2",
+            quiet(striped(3, 1, 6)?, striped(2, 1, 6)?, 6, 12),
+        ),
+    ] {
+        all = all + change(rt, name, plan)?;
+    }
+    Ok(all)
 }
 
 fn main(rt: HostRuntime) -> anyhow::Result<()> {
-    let all = widen_plain(&rt)?
-        .plus(widen_trial(&rt)?)
-        .plus(change_kinds(&rt)?);
-    let compared = all.compared;
-    let differing = all.differing;
-    if differing == 0 {
-        println!(rt;
-            "verdict: every sector is as it was last written; {compared} sectors compared"
-        )?;
-        Ok(())
-    } else {
+    let Tally {
+        compared,
+        differing,
+    } = widen_plain(&rt)? + widen_trial(&rt)? + change_kinds(&rt)?;
+    if differing > 0 {
         println!(rt;
             "verdict: {differing} of {compared} sectors compared differ from what was written"
         )?;
-        Err(anyhow!("a sector differs"))
+        bail!("a sector differs");
     }
+    println!(rt; "verdict: every sector is as it was last written; {compared} sectors compared")?;
+    Ok(())
 }

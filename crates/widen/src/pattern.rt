@@ -15,18 +15,6 @@ pub fn pattern(sector: u64, version: u64) -> Sector {
     }
     let [s0, s1, ..] = sector.to_le_bytes();
     let [v0, v1, ..] = version.to_le_bytes();
-    out[0] = s0;
-    out[1] = s1;
-    out[2] = v0;
-    out[3] = v1;
+    out[..4].copy_from_slice(&[s0, s1, v0, v1]);
     out
-}
-
-pub fn same(a: &Sector, b: &Sector) -> bool {
-    for (i, byte) in a.iter().enumerate() {
-        if *byte != b[i] {
-            return false;
-        }
-    }
-    true
 }

@@ -3,7 +3,15 @@ use crate::tour::{Tour, tell};
 use answer::{Refusal, Refused};
 use layout::Layout;
 use shelf::Shelf;
+use volume::Finished;
 use volume::grant::Grant;
+
+// the ends of the settled and of the kept rows, in sectors
+#[derive(Clone, Copy)]
+struct Ends {
+    settled: u64,
+    kept: u64,
+}
 
 // a write that was tried while a row was in hand
 #[derive(Clone, Copy)]
@@ -22,19 +30,28 @@ impl<S: Shelf> Tour<S> {
         Ok(())
     }
 
-    // The end of the settled rows and the end of the kept ones, in sectors.
-    fn ends(&self) -> (u64, u64) {
-        let settled = self.volume.settled().saturating_mul(self.target.row_len());
-        let kept = self.volume.kept().saturating_mul(self.source.row_len());
+    // Where the settled rows end, and the kept ones.
+    fn ends(&self) -> Ends {
+        let settled = self
+            .volume
+            .settled()
+            .saturating_mul(self.plan.target.row_len());
+        let kept = self
+            .volume
+            .kept()
+            .saturating_mul(self.plan.source.row_len());
         let size = self.volume.size();
-        (settled.min(size), kept.min(size))
+        Ends {
+            settled: settled.min(size),
+            kept: kept.min(size),
+        }
     }
 
     // Writes a sector of a settled row, a kept one and one that is still in the source, where there are such.
     pub fn write_around(&mut self, rt: &HostRuntime) -> anyhow::Result<()> {
-        let (settled, kept) = self.ends();
-        if settled > 0 {
-            self.write(rt, settled - 1, "settled row")?;
+        let Ends { settled, kept } = self.ends();
+        if let Some(last) = settled.checked_sub(1) {
+            self.write(rt, last, "settled row")?;
         }
         if settled < kept {
             self.write(rt, settled, "kept")?;
@@ -54,13 +71,7 @@ impl<S: Shelf> Tour<S> {
                 Ok(true)
             }
             Err(refused) => match refused.refusal {
-                Refusal::NeedNotKept => {
-                    let result = self.volume.keep();
-                    let kept = self.volume.kept();
-                    print!(rt; "keep, rows kept {kept}")?;
-                    tell(rt, "", &result)?;
-                    Ok(result.is_ok())
-                }
+                Refusal::NeedNotKept => self.keep(rt),
                 Refusal::AllSettled => {
                     self.finish(rt)?;
                     Ok(false)
@@ -73,10 +84,18 @@ impl<S: Shelf> Tour<S> {
         }
     }
 
+    // Keeps the next source row. Whether it was kept.
+    pub fn keep(&mut self, rt: &HostRuntime) -> anyhow::Result<bool> {
+        let result = self.volume.keep();
+        let kept = self.volume.kept();
+        tell(rt, format_args!("keep, rows kept {kept}"), result)?;
+        Ok(result.is_ok())
+    }
+
     // With the row in hand, tries to write into it, and into a sector past it; then settles it.
     fn settle_row(&mut self, rt: &HostRuntime, grant: Grant) -> anyhow::Result<()> {
         let row = grant.row();
-        let len = self.target.row_len();
+        let len = self.plan.target.row_len();
         let first = row.saturating_mul(len);
         let inside = self.probe(first);
         let past = self.probe(first.saturating_add(len));
@@ -85,17 +104,15 @@ impl<S: Shelf> Tour<S> {
         self.tell_probe(rt, inside, "row in hand")?;
         self.tell_probe(rt, past, "past the row in hand")?;
         let settled = self.volume.settled();
-        print!(rt; "settle, rows settled {settled}")?;
-        tell(rt, "", &result)
+        tell(rt, format_args!("settle, rows settled {settled}"), result)
     }
 
     // Tries to write a sector, if the volume has it.
     fn probe(&mut self, sector: u64) -> Option<Probe> {
-        if sector >= self.volume.size() {
-            return None;
-        }
-        let result = self.attempt(sector);
-        Some(Probe { sector, result })
+        (sector < self.volume.size()).then(|| Probe {
+            sector,
+            result: self.attempt(sector),
+        })
     }
 
     fn tell_probe(
@@ -104,23 +121,16 @@ impl<S: Shelf> Tour<S> {
         probe: Option<Probe>,
         place: &str,
     ) -> anyhow::Result<()> {
-        let Some(probe) = probe else {
+        let Some(Probe { sector, result }) = probe else {
             return Ok(());
         };
-        if self.chatty {
-            let sector = probe.sector;
-            print!(rt; "write {sector} ({place})")?;
-            tell(rt, "", &probe.result)?;
-        }
-        Ok(())
+        self.tell_write(rt, sector, place, result)
     }
 
     fn finish(&mut self, rt: &HostRuntime) -> anyhow::Result<()> {
         match self.volume.finish() {
-            Ok(counts) => {
-                let rows = counts.rows;
-                let kept = counts.kept;
-                println!(rt; "finish: 0, rows settled {rows}, rows kept {kept}")?;
+            Ok(Finished { rows, kept }) => {
+                println!(rt; "finish: 0, rows settled {rows}, rows kept {kept}")?
             }
             Err(refused) => println!(rt; "finish: {refused}")?,
         }
