@@ -100,13 +100,15 @@ fn torn_writes(rt: HostRuntime) -> Result<(), Fail> {
 }
 
 // The move from 3 members to 4 of 8 sectors with 4 slots, with so many rows settled, one row more kept where there is one, and
-// sector 3 in version 2.
+// sector 3 in version 2. Where there is none, the keep is refused for that.
 fn under_way(heap: Global, ends: Ends, rows: u64) -> Result<Disk, Fail> {
     let mut volume = ends.filled(trial(heap, 4, 11)?, 4, 8)?;
     volume.begin()?;
     walk_on(&mut volume, rows)?;
     if volume.kept() < ends.source.rows() {
         volume.keep()?;
+    } else if answered(volume.keep()) != Err(Refusal::AllKept) {
+        return Err(Fail::new("kept a row that is not there"));
     }
     put(&mut volume, 3, 2)?;
     Ok(volume)
@@ -160,7 +162,7 @@ fn all_well(settled: u64, kept: u64, version: u64) -> Shown {
 }
 
 // Loses a member and goes on to the end of the move, with sector 3 in this version. Answers how many sectors are wrong, before and
-// then.
+// then, and the rows settled where the move does not end.
 fn gone_on(volume: &mut Disk, version: u64, member: u64) -> Result<usize, Fail> {
     let before = wrong_beside(volume, 3, version);
     lose(volume, member)?;
@@ -168,7 +170,11 @@ fn gone_on(volume: &mut Disk, version: u64, member: u64) -> Result<usize, Fail> 
         walk_on(volume, 4)?;
         volume.finish()?;
     }
-    Ok(before.saturating_add(wrong_beside(volume, 3, version)))
+    Ok(
+        before
+            .saturating_add(volume.settled() as usize)
+            .saturating_add(wrong_beside(volume, 3, version)),
+    )
 }
 
 // Cuts a step, opens again, and goes on. Answers whether the step was granted, and what was shown then.
