@@ -6,6 +6,7 @@ ghost use Rattle.answer.specs.Faults.{in_row};
 ghost use Rattle.answer.specs.Numbers.{refusal_number, operation_number};
 ghost use Rattle.answer.specs.declared.Refused.{Refused};
 
+use std::error::Error;
 use std::fmt;
 
 // why a call was not done; docs/CALLS.md has the condition of each
@@ -102,6 +103,20 @@ pub struct Fault {
     pub row: Option<u64>,
 }
 
+impl Fault {
+    // The fault of an operation, in a call that is about no row so far.
+    pub fn at(operation: Operation, member: u64, sector: u64) -> Fault
+        ensures { result ≡ record { operation = operation; member = member; sector = sector; row = None } }
+    {
+        Fault {
+            operation,
+            member,
+            sector,
+            row: None,
+        }
+    }
+}
+
 // a call that was not done: why, and the fault where it was met at an operation of the call
 #[derive(Clone, Copy, PartialEq, Eq, Debug)]
 pub struct Refused {
@@ -174,13 +189,24 @@ impl fmt::Display for Fault {
     }
 }
 
+// The refusal's number.
+impl fmt::Display for Refusal {
+    fn fmt<W: fmt::Write>(&self, f: &mut fmt::Formatter<W>) -> fmt::Result {
+        write!(f, "{}", self.number())
+    }
+}
+
+impl Error for Refusal {}
+
 // The refusal's number, and the fault where there is one: `16 at write of member 2, sector 7, row 1`
 impl fmt::Display for Refused {
     fn fmt<W: fmt::Write>(&self, f: &mut fmt::Formatter<W>) -> fmt::Result {
-        let number = self.refusal.number();
+        let refusal = self.refusal;
         match self.fault {
-            Some(fault) => write!(f, "{number} at {fault}"),
-            None => write!(f, "{number}"),
+            Some(fault) => write!(f, "{refusal} at {fault}"),
+            None => write!(f, "{refusal}"),
         }
     }
 }
+
+impl Error for Refused {}

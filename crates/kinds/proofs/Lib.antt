@@ -1,2 +1,3 @@
 pub mod Naming
 pub mod Spreading
+pub mod Thens

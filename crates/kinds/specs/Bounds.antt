@@ -1,8 +1,9 @@
 -- What the limits of a grid say of places, chunks and sectors.
 use Rattle.std.specs.Prelude.{ℕ, ◌+◌, ◌*◌, ◌/◌, ◌%◌, ◌<◌, ◌≤◌}
 use Rattle.std.proofs.Common.{mul_comm, mul_assoc, mul_right_comm, div-mul-le_self, arith}
+use Rattle.std.proofs.Math.Nat.{le-mul_of_pos_right}
 use Rattle.std.proofs.lemmas.Nat.{mul-le, le-div, div_below, mod_below}
-use Rattle.kinds.specs.CellsLemmas.{cell_below, chunk_below, product_least}
+use Rattle.kinds.specs.CellsLemmas.{cell_below, chunk_below}
 use Rattle.kinds.specs.declared.grid.Grid.{Grid}
 
 -- an offset in row q
@@ -29,7 +30,7 @@ grid_most g =
     omega (arith, mul_right_comm g.chunks g.members g.chunk, mul_comm g.chunks g.chunk, mul-le (g.chunk * g.chunks) g.members 16777216 16 (omega arith) (omega arith))
 
 pub cells_most : (g : Grid) → g.chunks * g.members ≤ 268435456
-cells_most g = omega (arith, grid_most g, product_least (g.chunks * g.members) g.chunk (omega arith))
+cells_most g = omega (arith, grid_most g, le-mul_of_pos_right {m = g.chunk} (g.chunks * g.members) (omega arith))
 
 -- the sectors of q rows of w chunks, which are no more chunks than all
 pub rows_most : (g : Grid) (q w : ℕ) → q * w ≤ g.chunks * g.members → q * (g.chunk * w) ≤ 268435456

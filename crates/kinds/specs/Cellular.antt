@@ -33,6 +33,7 @@ pub record Cellular (grid : Grid) (g : Geometry) : Type 0 where
   pub rows_some : 1 ≤ g.rows
   pub room : g.rows * g.row_len ≤ grid.chunks * grid.members
   pub parity_row : (x : ℕ) → x < g.groups → (g.parity x).1 ≡ x
+  pub parity : 0 < g.groups → RowParity g
   pub loss : Loss g
   pub placing : Placing g
   pub grouping : Grouping g

@@ -34,7 +34,7 @@ pub sector_chunk : (c : ℕ) (g : Geometry) (i : ℕ) → 1 ≤ c → i < capaci
 sector_chunk c g i p h = chunk_below i c (capacity g) p (rw (sym (rows_chunks c g.rows g.row_len)) h)
 
 pub chunk_sector : (c : ℕ) (g : Geometry) (k r : ℕ) → k < capacity g → r < c → k * c + r < capacity (chunked c g)
-chunk_sector c g k r h p = rw (rows_chunks c g.rows g.row_len) (in_below k c r (capacity g) h p)
+chunk_sector c g k r h p = rw (rows_chunks c g.rows g.row_len) (mul-add-lt k c r (capacity g) h p)
 
 -- the cell of a place in a chunk, and the sector in it
 cell_of : (c : ℕ) (g : Geometry) (p : ℕ × ℕ) (i : ℕ) (o : Owner) → 1 ≤ c → g.owner p ≡ o → (chunked c g).owner (in_cell c p i) ≡ of_chunk c (i % c) o
@@ -44,7 +44,7 @@ cell_of c g p i o h e =
 
 inside_cell : (c : ℕ) (g : Geometry) (p : ℕ × ℕ) (i : ℕ) → 1 ≤ c → Inside g p → Inside (chunked c g) (in_cell c p i)
 inside_cell c g p i h at =
-    record { member = at.member; offset = in_below p.1 c (i % c) g.depth at.offset (mod_below i c (omega arith)) }
+    record { member = at.member; offset = mul-add-lt p.1 c (i % c) g.depth at.offset (mod_below i c (omega arith)) }
 
 inside : (c : ℕ) (g : Geometry) → 1 ≤ c → Placing g → (o : Owner) → Is (chunked c g) o → Inside (chunked c g) (place_of (chunked c g) o)
 inside c g h law (Datum i j) is =
@@ -74,7 +74,7 @@ owns c g p h (Datum k j) own =
     ((chunk_sector c g k (p.1 % c) own.0.0 b, own.0.1), from_cell c p (g.datum ((k * c + p.1 % c) / c) j) k h (simp div-mul-add own.1))
 owns c g p h (Parity x) own =
     let b : p.1 % c < c = mod_below p.1 c (omega arith) in
-    (in_below x c (p.1 % c) g.groups own.0 b, from_cell c p (g.parity ((x * c + p.1 % c) / c)) x h (simp div-mul-add own.1))
+    (mul-add-lt x c (p.1 % c) g.groups own.0 b, from_cell c p (g.parity ((x * c + p.1 % c) / c)) x h (simp div-mul-add own.1))
 owns c g p h Nobody own = tt
 
 pub placing : (c : ℕ) (g : Geometry) → 1 ≤ c → Placing g → Placing (chunked c g)
@@ -92,7 +92,7 @@ joined c g h law i s lt =
     let some : 0 < g.groups = some_factor c g.groups s in
     let j = law.joined (i / c) some (sector_chunk c g i h lt) in
     record {
-      group = in_below (g.group (i / c)) c (i % c) g.groups j.group b;
+      group = mul-add-lt (g.group (i / c)) c (i % c) g.groups j.group b;
       index = j.index;
       index_below = simp div-mul-add j.index_below;
       is = simp (div-mul-add, mod-mul-add) (ap (λ k. k * c + i % c) j.is ∙ div-add-mod' i c);

@@ -1,8 +1,9 @@
 -- The laws of the four kinds over a grid, and that a label names one layout.
 use Rattle.std.specs.Prelude.{◌≡◌, ℕ, ◌-◌, ◌*◌, ◌/◌, ◌≤◌, refl}
-use Rattle.std.proofs.Common.{sym, ap, ◌∙◌, inl, inr, mul_comm, add-zero, div-mul-le_self, arith}
+use Rattle.std.proofs.Common.{sym, ap, ◌∙◌, inl, inr, div-mul-le_self, arith}
+use Rattle.std.proofs.Math.Nat.{one-le-mul, mul-div_cancel_left}
 use Rattle.std.proofs.lemmas.Bool.{cases_lt}
-use Rattle.std.proofs.lemmas.Nat.{mul-le, le-div, div-mul-add}
+use Rattle.std.proofs.lemmas.Nat.{mul-le, le-div}
 use Rattle.layout.specs.declared.kind.Kind.TheVariants.{Striped, LeftSymmetric, Near, Far}
 use Rattle.layout.specs.declared.label.Label.{Label}
 use Rattle.layout.specs.Geometry.{Geometry}
@@ -13,7 +14,6 @@ use Rattle.kinds.specs.Chunked.{chunked}
 use Rattle.kinds.specs.Named.{geometry_named}
 use Rattle.kinds.specs.declared.grid.Grid.{Grid}
 use Rattle.kinds.specs.Bounds.{near_rows, rows_most}
-use Rattle.kinds.specs.CellsLemmas.{product_some}
 use Rattle.kinds.specs.Chunks.{some_factor, placing, grouping, no_groups}
 use Rattle.kinds.specs.Mirrors.{striped_placing, near_placing, far_placing}
 use Rattle.kinds.specs.Parities.{left_placing, left_grouping}
@@ -27,14 +27,14 @@ limits g s e d a b c r m = record {
   depth_most = omega (arith, ap (λ x. g.chunk * x) d);
   copies_some = a;
   copies_most = omega arith;
-  row_some = product_some g.chunk s.row_len (omega arith) c;
+  row_some = one-le-mul (omega arith) c;
   rows_some = r;
   capacity_most = rows_most g s.rows s.row_len m;
 }
 
 -- no groups of chunks, no groups of cells
 no_factor : (c m : ℕ) → 1 ≤ c → c * m ≡ 0 → m ≡ 0
-no_factor c m h e = elim (cases_lt 0 m) [ inl lt ↦ absurd (omega (arith, e, product_some c m h lt)) | inr le ↦ omega arith ]
+no_factor c m h e = elim (cases_lt 0 m) [ inl lt ↦ absurd (omega (arith, e, one-le-mul {a = c} {b = m} h lt)) | inr le ↦ omega arith ]
 
 -- Cells that keep their laws, spread over chunks, are a lawful layout.
 pub spread_lawful : (g : Grid) (s : Geometry) → Cellular g s → Lawful (chunked g.chunk s)
@@ -58,6 +58,7 @@ striped_cellular g = record {
   rows_some = omega arith;
   room = omega arith;
   parity_row = λ x h. absurd (omega arith);
+  parity = λ h. absurd (omega arith);
   loss = record { of_copies = λ e. refl; of_parity = λ h. absurd (omega arith) };
   placing = striped_placing g.members g.chunks (omega arith);
   grouping = no_groups (striped_cells g.members g.chunks) refl;
@@ -73,6 +74,7 @@ left_cellular g three = record {
   rows_some = omega arith;
   room = mul-le g.chunks (g.members - 1) g.chunks g.members (omega arith) (omega arith);
   parity_row = λ x h. refl;
+  parity = λ h. record { groups = refl; group = λ k. refl; peers = λ s. refl; peer = λ s a. refl };
   loss = record { of_copies = λ e. absurd (omega (arith, e)); of_parity = λ h. (refl, refl) };
   placing = left_placing g.members g.chunks three;
   grouping = left_grouping g.members g.chunks three;
@@ -90,6 +92,7 @@ near_cellular g f two apart =
       rows_some = rows.0;
       room = omega (arith, rows.1);
       parity_row = λ x h. absurd (omega arith);
+      parity = λ h. absurd (omega arith);
       loss = record { of_copies = λ e. omega arith; of_parity = λ h. absurd (omega arith) };
       placing = near_placing g.members g.chunks f (omega arith) (omega arith) apart;
       grouping = no_groups (near_cells g.members g.chunks f) refl;
@@ -108,6 +111,7 @@ far_cellular g f two apart zoned =
       rows_some = zone;
       room = mul-le (g.chunks / f) g.members g.chunks g.members most (omega arith);
       parity_row = λ x h. absurd (omega arith);
+      parity = λ h. absurd (omega arith);
       loss = record { of_copies = λ e. omega arith; of_parity = λ h. absurd (omega arith) };
       placing = far_placing g.members g.chunks f (omega arith) apart zone;
       grouping = no_groups (far_cells g.members g.chunks f) refl;
@@ -128,10 +132,7 @@ far_lawful g f two apart zoned = spread_lawful g (far_cells g.members g.chunks f
 
 -- the chunks of a member, from the depth
 chunks_of : (g : Grid) → g.chunk * g.chunks / g.chunk ≡ g.chunks
-chunks_of g = ap (λ d. d / g.chunk) (mul_comm g.chunk g.chunks) ∙ whole g.chunks g.chunk (omega arith)
-  where
-    whole : (h c : ℕ) → 1 ≤ c → h * c / c ≡ h
-    whole h c a = ap (λ d. d / c) (sym (add-zero (h * c))) ∙ div-mul-add h c 0 (omega arith)
+chunks_of g = mul-div_cancel_left g.chunks (omega arith)
 
 -- each kind is what its label names
 pub striped_named : (g : Grid) → chunked g.chunk (striped_cells g.members g.chunks) ≡ geometry_named (grid_label Striped 1 g)

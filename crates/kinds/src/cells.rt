@@ -17,7 +17,7 @@ pub trait Cells {
 
     const KIND: Kind;
 
-    // the grid under the cells, and what lies in which
+    // The grid under the cells, and what lies in which: by a kind's private fields, as a definition elsewhere would only read the same ones.
     ghost over: { Self → Grid };
 
     ghost cells: { Self → Geometry };

@@ -1,13 +1,15 @@
 // Far copies: each member is cut into a zone for each copy, and each zone is striped, turned by one member more than the one before.
 ghost use Rattle.std.specs.Prelude.{◌≡◌, ◌-◌, ◌*◌, ◌/◌, ◌<◌, ◌≤◌, None, MatchOption};
 ghost use Rattle.layout.specs.declared.kind.Kind.TheVariants as kind;
-ghost use Rattle.kinds.specs.Limits.{Copied, Gridded, Measured};
+ghost use Rattle.layout.specs.Labels.{stock_label};
+ghost use Rattle.kinds.specs.Limits.{Copied, Gridded};
 ghost use Rattle.kinds.specs.Cells.{far_cells};
 ghost use Rattle.kinds.specs.Laws.{far_cellular, far_named};
 
 use crate::cells::Cells;
 use crate::grid::Grid;
 use crate::spread::Spread;
+use layout::Layout;
 use layout::kind::Kind;
 use layout::place::{Owner, Place};
 
@@ -25,9 +27,10 @@ pub type Far = Spread<FarCells>;
 impl Far {
     // None where a number is out of limits; each zone has at least one chunk of each member.
     pub fn new(members: u64, copies: u64, chunk: u64, depth: u64) -> Option<Far>
-        ensures { MatchOption result (Gridded members chunk depth × Copied members copies × (copies ≤ depth / chunk) → ⊥) (λ l. (l.cells.copies ≡ copies) × Measured l.cells.grid.members l.cells.grid.chunk l.cells.grid.chunks members chunk depth) }
+        ensures { MatchOption result (Gridded members chunk depth × Copied members copies × (copies ≤ depth / chunk) → ⊥) (λ l. ⟦<Far as Layout>⟧.named l ≡ stock_label kind.Far members copies chunk depth) }
     {
         let grid = Grid::new(members, chunk, depth)?;
+        // A test and not `then`: the closure would have to require what the test says, as the cells need it of their numbers.
         if grid.bears(copies) && copies <= grid.chunks {
             Some(Spread {
                 cells: FarCells { grid, copies },

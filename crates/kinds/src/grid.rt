@@ -17,6 +17,7 @@ pub const FEWEST_COPIES: u64 = 2;
 pub const MOST_COPIES: u64 = 4;
 
 // The answer for a sector, a copy or a group out of range.
+// A place and no None, since every layout answers with a place for all numbers, and who asks in range has no case to tell apart.
 pub const NOWHERE: Place = (0, 0);
 
 // The members are the columns, and the chunks of a member its rows; so the depth is chunk × chunks.
@@ -96,11 +97,7 @@ impl Grid {
     pub(crate) fn number(&self, cell: Place) -> Option<u64>
         ensures { NumberAt self.now.members self.now.chunks cell result }
     {
-        if self.holds(cell) {
-            Some(cell.1 * self.members + cell.0)
-        } else {
-            None
-        }
+        self.holds(cell).then(|| cell.1 * self.members + cell.0)
     }
 
     // The cell of a number.

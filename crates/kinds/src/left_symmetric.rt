@@ -2,13 +2,15 @@
 // the data begin on the member after it.
 ghost use Rattle.std.specs.Prelude.{◌≡◌, ◌-◌, ◌*◌, ◌<◌, ◌≤◌, MatchOption};
 ghost use Rattle.layout.specs.declared.kind.Kind.TheVariants as kind;
-ghost use Rattle.kinds.specs.Limits.{Gridded, Measured};
+ghost use Rattle.layout.specs.Labels.{stock_label};
+ghost use Rattle.kinds.specs.Limits.{Gridded};
 ghost use Rattle.kinds.specs.Cells.{left_cells, parity_member_lem};
 ghost use Rattle.kinds.specs.Laws.{left_cellular, left_named};
 
 use crate::cells::Cells;
 use crate::grid::Grid;
 use crate::spread::Spread;
+use layout::Layout;
 use layout::kind::Kind;
 use layout::place::{Owner, Place};
 
@@ -25,7 +27,7 @@ pub type LeftSymmetric = Spread<LeftSymmetricCells>;
 impl LeftSymmetric {
     // None where a number is out of limits.
     pub fn new(members: u64, chunk: u64, depth: u64) -> Option<LeftSymmetric>
-        ensures { MatchOption result (Gridded members chunk depth × (3 ≤ members) → ⊥) (λ l. Measured l.cells.grid.members l.cells.grid.chunk l.cells.grid.chunks members chunk depth) }
+        ensures { MatchOption result (Gridded members chunk depth × (3 ≤ members) → ⊥) (λ l. ⟦<LeftSymmetric as Layout>⟧.named l ≡ stock_label kind.LeftSymmetric members 1 chunk depth) }
     {
         let grid = Grid::new(members, chunk, depth)?;
         if members < FEWEST_WITH_PARITY {

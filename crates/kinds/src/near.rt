@@ -1,13 +1,15 @@
 // Near copies: the copies of a chunk lie in cells next to one another, as the cells go round the members.
 ghost use Rattle.std.specs.Prelude.{◌≡◌, ◌-◌, ◌<◌, ◌≤◌, None, MatchOption};
 ghost use Rattle.layout.specs.declared.kind.Kind.TheVariants as kind;
-ghost use Rattle.kinds.specs.Limits.{Copied, Gridded, Measured};
+ghost use Rattle.layout.specs.Labels.{stock_label};
+ghost use Rattle.kinds.specs.Limits.{Copied, Gridded};
 ghost use Rattle.kinds.specs.Cells.{near_cells};
 ghost use Rattle.kinds.specs.Laws.{near_cellular, near_named};
 
 use crate::cells::Cells;
 use crate::grid::Grid;
 use crate::spread::Spread;
+use layout::Layout;
 use layout::kind::Kind;
 use layout::place::{Owner, Place};
 
@@ -24,9 +26,10 @@ pub type Near = Spread<NearCells>;
 impl Near {
     // None where a number is out of limits.
     pub fn new(members: u64, copies: u64, chunk: u64, depth: u64) -> Option<Near>
-        ensures { MatchOption result (Gridded members chunk depth × Copied members copies → ⊥) (λ l. (l.cells.copies ≡ copies) × Measured l.cells.grid.members l.cells.grid.chunk l.cells.grid.chunks members chunk depth) }
+        ensures { MatchOption result (Gridded members chunk depth × Copied members copies → ⊥) (λ l. ⟦<Near as Layout>⟧.named l ≡ stock_label kind.Near members copies chunk depth) }
     {
         let grid = Grid::new(members, chunk, depth)?;
+        // A test and not `then`: the closure would have to require what the test says, as the cells need it of their numbers.
         if grid.bears(copies) {
             Some(Spread {
                 cells: NearCells { grid, copies },
@@ -76,16 +79,15 @@ impl Cells for NearCells {
     }
 
     fn owner(&self, cell: Place) -> Owner {
-        let Some(number) = self.grid.number(cell) else {
-            return Owner::Nobody;
-        };
-        let sector = number / self.copies;
-        if sector >= self.rows() {
-            return Owner::Nobody;
-        }
-        Owner::Datum {
-            sector,
-            copy: number % self.copies,
-        }
+        self.grid
+            .number(cell)
+            .filter(|number| number / self.copies < self.rows())
+            .map_or(
+                Owner::Nobody,
+                |number| Owner::Datum {
+                    sector: number / self.copies,
+                    copy: number % self.copies,
+                },
+            )
     }
 }

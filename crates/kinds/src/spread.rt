@@ -1,5 +1,4 @@
 // Cells spread over chunks: what a kind says of a chunk holds for each of its sectors.
-ghost use Rattle.std.specs.Prelude.{◌≡◌};
 ghost use Rattle.kinds.specs.Cellular.{GroupParity, grid_label};
 ghost use Rattle.kinds.specs.Chunked.{chunked};
 ghost use Rattle.kinds.specs.Laws.{one_name, spread_lawful};
@@ -81,15 +80,11 @@ impl<C: Cells> Layout for Spread<C> {
     }
 
     fn peer(&self, group: u64, index: u64) -> u64 {
-        let Some(_) = self.parity_member(group) else {
-            return 0;
-        };
-        let columns = self.cells.columns();
-        if index >= columns {
+        if index >= self.peers(group) {
             return 0;
         }
         let grid = self.cells.grid();
-        grid.sector(group / grid.chunk * columns + index, group)
+        grid.sector(group / grid.chunk * self.cells.columns() + index, group)
     }
 
     fn parity(&self, group: u64) -> Place {

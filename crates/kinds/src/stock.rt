@@ -36,7 +36,8 @@ macro_rules! ask {
 }
 
 impl Stock {
-    // The layout that a label names; every label that is out of limits is refused.
+    // The layout that a label names; every label that is out of limits is refused. By this name and not as `try_from`, which would not say
+    // that the layout is the one that the label is of.
     pub fn from_label(label: &Label) -> Result<Stock, Refusal>
         ensures { MatchResult result (λ s. label_of s ≡ label.now) (λ e. (e ≡ OutOfLimits) × (Stocked label.now → ⊥)) }
     {

@@ -1,13 +1,15 @@
 // Striped: the chunks go round the members, with one copy of each.
-ghost use Rattle.std.specs.Prelude.{◌≡◌, ◌*◌, ◌<◌, ◌≤◌, None, MatchOption};
+ghost use Rattle.std.specs.Prelude.{◌≡◌, ◌<◌, None, MatchOption};
 ghost use Rattle.layout.specs.declared.kind.Kind.TheVariants as kind;
-ghost use Rattle.kinds.specs.Limits.{Gridded, Measured};
+ghost use Rattle.layout.specs.Labels.{stock_label};
+ghost use Rattle.kinds.specs.Limits.{Gridded};
 ghost use Rattle.kinds.specs.Cells.{striped_cells};
 ghost use Rattle.kinds.specs.Laws.{striped_cellular, striped_named};
 
 use crate::cells::Cells;
 use crate::grid::Grid;
 use crate::spread::Spread;
+use layout::Layout;
 use layout::kind::Kind;
 use layout::place::{Owner, Place};
 
@@ -21,7 +23,7 @@ pub type Striped = Spread<StripedCells>;
 impl Striped {
     // None where a number is out of limits.
     pub fn new(members: u64, chunk: u64, depth: u64) -> Option<Striped>
-        ensures { MatchOption result (Gridded members chunk depth → ⊥) (λ l. Measured l.cells.grid.members l.cells.grid.chunk l.cells.grid.chunks members chunk depth) }
+        ensures { MatchOption result (Gridded members chunk depth → ⊥) (λ l. ⟦<Striped as Layout>⟧.named l ≡ stock_label kind.Striped members 1 chunk depth) }
     {
         let grid = Grid::new(members, chunk, depth)?;
         Some(Spread {

@@ -4,10 +4,10 @@ ghost use Rattle.layout.specs.Kinds.{KindOf, kind_number};
 
 #[derive(Clone, Copy, PartialEq, Eq, Debug)]
 pub enum Kind {
-    Striped,
-    LeftSymmetric,
-    Near,
-    Far,
+    Striped = 1,
+    LeftSymmetric = 2,
+    Near = 3,
+    Far = 4,
 }
 
 // a number that no stock kind has
@@ -18,12 +18,7 @@ impl From<Kind> for u8 {
     ghost from_gives = { λ kind n. n ≡ kind_number kind };
 
     fn from(kind: Kind) -> u8 {
-        match kind {
-            Kind::Striped => 1,
-            Kind::LeftSymmetric => 2,
-            Kind::Near => 3,
-            Kind::Far => 4,
-        }
+        kind as u8
     }
 }
 
@@ -33,12 +28,9 @@ impl TryFrom<u8> for Kind {
     ghost try_from_gives = { KindOf };
 
     fn try_from(number: u8) -> Result<Kind, UnknownKind> {
-        match number {
-            1 => Ok(Kind::Striped),
-            2 => Ok(Kind::LeftSymmetric),
-            3 => Ok(Kind::Near),
-            4 => Ok(Kind::Far),
-            _ => Err(UnknownKind(number)),
-        }
+        [Kind::Striped, Kind::LeftSymmetric, Kind::Near, Kind::Far]
+            .into_iter()
+            .find(|&kind| u8::from(kind) == number)
+            .ok_or(UnknownKind(number))
     }
 }

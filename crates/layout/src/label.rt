@@ -1,5 +1,5 @@
 // The label: 16 bytes by which a head names a layout.
-ghost use Rattle.std.specs.Prelude.{◌≡◌, ◌∷◌, ◌++◌, take, drop, slice_index};
+ghost use Rattle.std.specs.Prelude.{◌≡◌};
 ghost use Rattle.layout.specs.Bytes.{label_bytes, label_of};
 ghost use Rattle.layout.specs.Labels.{in_limits, stock_kind, stock_label};
 
@@ -63,12 +63,15 @@ impl Label {
     {
         Kind::try_from(self.kind).is_ok() && (1..=MOST_CHUNK).contains(&u64::from(self.chunk))
     }
+}
 
-    // Kind, members, copies, the reserved byte, then the chunk in four bytes and the depth in eight, little-endian.
-    pub fn to_bytes(&self) -> [u8; LABEL]
-        ensures bytes { result ≡ label_bytes self.now }
-        ensures back { label_of result ≡ self.now }
-    {
+// Kind, members, copies, the reserved byte, then the chunk in four bytes and the depth in eight, little-endian.
+impl Field<LABEL> for Label {
+    ghost bytes_of = { label_bytes };
+
+    ghost of_bytes = { label_of };
+
+    fn to_bytes(&self) -> [u8; LABEL] {
         let mut bytes = [0; LABEL];
         bytes[..4].copy_from_slice(&[self.kind, self.members, self.copies, self.reserved]);
         bytes[4..8].copy_from_slice(&self.chunk.to_bytes());
@@ -76,10 +79,7 @@ impl Label {
         bytes
     }
 
-    pub fn from_bytes(bytes: &[u8; LABEL]) -> Label
-        ensures label { result ≡ label_of bytes.now }
-        ensures back { label_bytes result ≡ bytes.now }
-    {
+    fn from_bytes(bytes: &[u8; LABEL]) -> Label {
         Label {
             kind: bytes[0],
             members: bytes[1],
@@ -88,20 +88,5 @@ impl Label {
             chunk: u32::from_bytes(bytes[4..].first_chunk().unwrap()),
             depth: u64::from_bytes(bytes[8..].first_chunk().unwrap()),
         }
-    }
-}
-
-// The same two as a field, so that a head reads and writes a label as it does a number.
-impl Field<LABEL> for Label {
-    ghost bytes_of = { label_bytes };
-
-    ghost of_bytes = { label_of };
-
-    fn to_bytes(&self) -> [u8; LABEL] {
-        Label::to_bytes(self)
-    }
-
-    fn from_bytes(bytes: &[u8; LABEL]) -> Label {
-        Label::from_bytes(bytes)
     }
 }

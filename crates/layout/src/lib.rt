@@ -28,6 +28,7 @@ pub const MOST_CHUNK: u64 = 2_048;
 // group has a place for the exclusive-or of its peers. A customer's own layout implements this trait and has a label of kind 128 to 255.
 //
 // Every answer is defined: a place that is asked for a sector, copy or group out of range is (0, 0), a group None, a count 0.
+// The numbers stand for none since each layout gives the same answer there, the laws speak of arguments in range alone, and callers ask in range.
 pub trait Layout {
     // what it places where, and the name that a head has for it
     ghost geometry: { Self → Geometry };
@@ -100,12 +101,9 @@ pub trait Layout {
 pub fn led_group<L: Layout>(layout: &L, sector: u64) -> Option<u64>
     ensures { LedAt (L.Layout.geometry layout.now) sector result }
 {
-    let group = layout.group(sector)?;
-    if layout.peer(group, 0) == sector {
-        Some(group)
-    } else {
-        None
-    }
+    layout
+        .group(sector)
+        .filter(|&group| layout.peer(group, 0) == sector)
 }
 
 // Whether the layout's label says what the layout is: a known kind, a zero reserved byte, and its own members, copies and depth.

@@ -1,5 +1,5 @@
 -- From what a layout answers to the definitions, for every lawful layout.
-use Rattle.std.proofs.Common.{◌≡◌, ℕ, ◌+◌, ◌*◌, ◌/◌, ◌<◌, ◌≤◌, eqb, ltb, Option, Some, None, MatchOption, sym, ap, ◌∙◌, subst, inl, inr, mul-le-mul_right, mul_comm, add-mul, arith}
+use Rattle.std.proofs.Common.{◌≡◌, ℕ, ◌+◌, ◌*◌, ◌/◌, ◌<◌, ◌≤◌, eqb, ltb, Option, Some, None, MatchOption, sym, ap, ◌∙◌, subst, inl, inr, mul-le-mul_right, mul_comm, arith}
 use Rattle.std.specs.Int.{div_ceil}
 use Rattle.std.proofs.lemmas.Grind.{div_ceil_times}
 use Rattle.std.proofs.lemmas.Nat.{mul-add-lt, mul-le}
@@ -42,20 +42,15 @@ parity_place_lem g law size p x r n e only m =
 pub sector_below : (t : Geometry) (r k : ℕ) → r < t.rows → k < t.row_len → r * t.row_len + k < capacity t
 sector_below t r k a b = omega (arith, mul-add-lt r t.row_len k t.rows a b, mul_comm t.row_len t.rows)
 
--- the end of a target row
-pub row_end : (t : Geometry) → Lawful t → (r len : ℕ) → len ≡ t.row_len → r < t.rows → r * len + len ≤ 268435456
-row_end t law r len e h =
-    omega (arith, law.limits.capacity_most, ap (λ x. t.rows * x) e, mul-le (r + 1) len t.rows len (omega arith) (omega arith), add-mul r 1 len)
-
 -- what the parity needs: P tells of what was asked for a group
-pub led_is : (s t : Geometry) → Lawful t → (size i n : ℕ) → i < capacity t → (o : Option ℕ) (P : ℕ → Type 0) → LedAt t i o → MatchOption o (n ≡ 0) P
+pub led_is : (s : Geometry) {t : Geometry} → Lawful t → (size i n : ℕ) → i < capacity t → (o : Option ℕ) (P : ℕ → Type 0) → LedAt t i o → MatchOption o (n ≡ 0) P
     → ((x : ℕ) → x < t.groups → P x → n ≡ place_need_lem s size (t.parity x)) → n ≡ led_need s t size i
-led_is s t law size i n inside None P led e asked =
+led_is s {t} law size i n inside None P led e asked =
     e ∙ sym (elim (cases_lt 0 t.groups) [
       | inl lt ↦ cond-true (ltb 0 t.groups) _ 0 (lt-ltb 0 t.groups lt) ∙ cond-false (eqb (t.peer (t.group i) 0) i) _ 0 (ne_eqb (t.peer (t.group i) 0) i (led (lt, inside)))
       | inr le ↦ cond-false (ltb 0 t.groups) _ 0 (le-ltb 0 t.groups le)
     ])
-led_is s t law size i n inside (Some x) P led e asked =
+led_is s {t} law size i n inside (Some x) P led e asked =
     let below : x < t.groups = rw led.2 (law.grouping.joined i led.0 led.1).group in
     let first : t.peer (t.group i) 0 ≡ i = ap (λ z. t.peer z 0) (sym led.2) ∙ led.3 in
     asked x below e

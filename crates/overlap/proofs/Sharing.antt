@@ -136,10 +136,10 @@ highest s t sl tl size r = record {
   met = λ row e. met s t sl tl size r row e;
 }
 
-pub highest_at : (s t : Geometry) → Lawful s → Lawful t → (size r n : ℕ) → n ≡ need_of s t size r → Highest s t size r n
-highest_at s t sl tl size r n e = subst (Highest s t size r) (sym e) (highest s t sl tl size r)
+pub highest_at : {s t : Geometry} → Lawful s → Lawful t → (size r n : ℕ) → n ≡ need_of s t size r → Highest s t size r n
+highest_at {s} {t} sl tl size r n e = subst (Highest s t size r) (sym e) (highest s t sl tl size r)
 
 -- a need is at most the live rows
-pub need_live : (s t : Geometry) (size r n k : ℕ) → Highest s t size r n → LiveRows s size k → n ≤ k
-need_live s t size r zero k high rows = omega arith
-need_live s t size r (suc n) k high rows = omega (arith, rows.all n (high.met n (omega arith)).0)
+pub need_live : {s t : Geometry} {size r : ℕ} (n k : ℕ) → Highest s t size r n → LiveRows s size k → n ≤ k
+need_live zero k high rows = omega arith
+need_live (suc n) k high rows = omega (arith, rows.all n (high.met n (omega arith)).0)

@@ -1,5 +1,5 @@
 -- The distance is enough for every keep that a copy waits for.
-use Rattle.std.proofs.Common.{◌≡◌, ℕ, ◌+◌, ◌-◌, ◌*◌, ◌<◌, ◌≤◌, min, ltb, sym, ap, ◌∙◌, inl, inr, mul-le-mul_right, arith}
+use Rattle.std.proofs.Common.{◌≡◌, ℕ, ◌+◌, ◌<◌, ◌≤◌, min, ltb, sym, ap, ◌∙◌, inl, inr, mul-le-mul_right, arith}
 use Rattle.std.proofs.lemmas.Bool.{cases_lt, cond-false, le-ltb}
 use Rattle.std.proofs.lemmas.Nat.{mul-le}
 use Rattle.layout.specs.Geometry.{Geometry}
@@ -30,11 +30,6 @@ reach_cut s t size r n e =
           (let same : n ≡ t.rows = omega arith in
           ap (most (need_of s t size)) same ∙ sym (most_beyond (need_of s t size) t.rows (r + 1) le (need_beyond s t size)))
     ]
-
--- the same window by the numbers at hand
-pub ahead_is : (s t : Geometry) (size n m a c r x : ℕ) → n ≡ m → a ≡ s.row_len → c ≡ t.row_len → x ≡ min (n * a) size - r * c → x ≡ ahead_of s t size m r
-ahead_is s t size n m a c r x e f g h =
-    h ∙ (ap (λ y. min (y * a) size - r * c) e ∙ (ap (λ y. min (m * y) size - r * c) f ∙ ap (λ y. min (m * s.row_len) size - r * y) g))
 
 -- a layout has fewer rows than a number of 64 bits can count
 pub rows_few : (t : Geometry) → Lawful t → t.rows ≤ 268435456

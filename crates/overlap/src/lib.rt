@@ -4,7 +4,7 @@
 ghost use Rattle.std.specs.Prelude.{◌≡◌, ℕ, ◌+◌, ◌-◌, ◌*◌, ◌/◌, ◌<◌, ◌≤◌};
 ghost use Rattle.layout.specs.Geometry.{capacity as room};
 ghost use Rattle.overlap.specs.Needs.{ahead_of, distance_of, led_need, most, need_of, place_need_lem, reach_of, row_need_lem, sector_need_lem};
-ghost use Rattle.overlap.specs.Rows.{Highest, Live, LiveRows};
+ghost use Rattle.overlap.specs.Rows.{Highest, LiveRows};
 
 pub mod walk;
 
@@ -59,14 +59,7 @@ pub fn distance<Old: Layout, New: Layout>(source: &Old, target: &New, size: u64)
     // The reach is carried on from row to row: asked anew, it would take all the rows before again.
     for row in 0..target.rows() {
         reach = reach.max(need(source, target, size, row));
-        let walk = Walk {
-            source_len: source.row_len(),
-            target_len: target.row_len(),
-            settled: row,
-            kept: reach,
-            size,
-            backup: 0,
-        };
+        let walk = Walk::of(source, target, row, reach, size, 0);
         most = most.max(walk.window(reach));
     }
     most

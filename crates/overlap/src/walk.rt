@@ -2,6 +2,7 @@
 ghost use Rattle.std.specs.Prelude.{◌≡◌, ◌+◌, ◌-◌, ◌*◌, ◌^◌, ◌<◌, ◌≤◌, min, Decides};
 ghost use Rattle.overlap.specs.Homes.{KeepSpan, home_of, kept_row, settled_row, window_of};
 
+use layout::Layout;
 use std::ops::Range;
 
 // the place of which the content of a sector is read and to which it is written
@@ -29,6 +30,32 @@ pub struct Walk {
 }
 
 impl Walk {
+    // How far a move from one layout to another has come.
+    pub fn of<Old: Layout, New: Layout>(
+        source: &Old,
+        target: &New,
+        settled: u64,
+        kept: u64,
+        size: u64,
+        backup: u64,
+    ) -> Walk
+        ensures source_len { result.source_len ≡ (Old.Layout.geometry source.now).row_len }
+        ensures target_len { result.target_len ≡ (New.Layout.geometry target.now).row_len }
+        ensures settled { result.settled ≡ settled }
+        ensures kept { result.kept ≡ kept }
+        ensures size { result.size ≡ size }
+        ensures backup { result.backup ≡ backup }
+    {
+        Walk {
+            source_len: source.row_len(),
+            target_len: target.row_len(),
+            settled,
+            kept,
+            size,
+            backup,
+        }
+    }
+
     // Whether a target row is settled.
     pub fn is_settled(&self, row: u64) -> bool
         ensures { result ≡ settled_row self.now.settled row }

@@ -22,7 +22,8 @@ pub fn zeros() -> Sector
 pub fn fold(written: &mut Sector, read: &Sector)
     ensures { written.new ≡ folded written.old read.now }
 {
-    // By index: over `iter_mut().zip(read)` the proof did not close.
+    // By index: over `iter_mut().zip(read)` no invariant can close the proof, since after an adapter of `iter_mut` nothing is known
+    // of what was written.
     for (i, byte) in read.iter().enumerate() {
         written[i] = fold_byte(written[i], *byte);
     }

@@ -41,22 +41,33 @@ struct Recorded {
     capacity: u64,
 }
 
-fn number<N: FromStr>(word: Option<&str>) -> Option<N>
-where
-    N::Err: Drop,
-{
-    word?.parse().ok()
+// a kind, by the word that a recording has for it
+#[derive(Clone, Copy)]
+struct Named(Kind);
+
+// a word that names no kind
+#[derive(Clone, Copy)]
+struct UnknownWord;
+
+impl FromStr for Named {
+    type Err = UnknownWord;
+
+    fn from_str(word: &str) -> Result<Named, UnknownWord> {
+        match word {
+            "striped" => Ok(Named(Kind::Striped)),
+            "parity" => Ok(Named(Kind::LeftSymmetric)),
+            "near" => Ok(Named(Kind::Near)),
+            "far" => Ok(Named(Kind::Far)),
+            _ => Err(UnknownWord),
+        }
+    }
 }
 
-// The kind that a recording names.
-fn kind_of(word: &str) -> Option<Kind> {
-    match word {
-        "striped" => Some(Kind::Striped),
-        "parity" => Some(Kind::LeftSymmetric),
-        "near" => Some(Kind::Near),
-        "far" => Some(Kind::Far),
-        _ => None,
-    }
+fn parsed<T: FromStr>(word: Option<&str>) -> Option<T>
+where
+    T::Err: Drop,
+{
+    word?.parse().ok()
 }
 
 // The layout that a first line tells of.
@@ -65,12 +76,12 @@ fn first_line(line: &str) -> Option<Recorded> {
     if words.next()? != "#" {
         return None;
     }
-    let kind = kind_of(words.next()?)?;
-    let members = number(words.next())?;
-    let copies = number(words.next())?;
-    let chunk = number::<u32>(words.next())?;
-    let offered = number::<u64>(words.next())?;
-    let capacity = number(words.next())?;
+    let Named(kind) = parsed(words.next())?;
+    let members = parsed(words.next())?;
+    let copies = parsed(words.next())?;
+    let chunk = parsed::<u32>(words.next())?;
+    let offered = parsed::<u64>(words.next())?;
+    let capacity = parsed(words.next())?;
     let depth = offered - offered.checked_rem(u64::from(chunk))?;
     let label = Label::stock(kind, members, copies, chunk, depth);
     Some(Recorded {
@@ -82,21 +93,12 @@ fn first_line(line: &str) -> Option<Recorded> {
 
 // Whether the layout has a sector at a place: the place names its owner, and the owner its place.
 fn has_datum(layout: &Stock, sector: u64, at: Place) -> bool {
-    match layout.owner(at) {
-        Owner::Datum {
-            sector: owned,
-            copy,
-        } => owned == sector && layout.place(owned, copy) == at,
-        _ => false,
-    }
+    matches!(layout.owner(at), Owner::Datum { sector: owned, copy } if owned == sector && layout.place(owned, copy) == at)
 }
 
 // The same of a sector of parity.
 fn has_parity(layout: &Stock, at: Place) -> bool {
-    match layout.owner(at) {
-        Owner::Parity { group } => layout.parity(group) == at,
-        _ => false,
-    }
+    matches!(layout.owner(at), Owner::Parity { group } if layout.parity(group) == at)
 }
 
 // How many sectors of the chunk at a place do not lie where the recording has them; `lies` tells of one, by its number in the chunk.
@@ -114,9 +116,9 @@ fn compare_line(recorded: &Recorded, line: &str, so_far: Comparison) -> Option<C
     let mut next = so_far;
     match words.next()? {
         "D" => {
-            let sector = number::<u64>(words.next())?;
-            let _copy = number::<u64>(words.next())?;
-            let place = (number(words.next())?, number(words.next())?);
+            let sector = parsed::<u64>(words.next())?;
+            let _copy = parsed::<u64>(words.next())?;
+            let place = (parsed(words.next())?, parsed(words.next())?);
             let differing = elsewhere(recorded.chunk, place, |i, at| {
                 has_datum(&recorded.layout, sector.saturating_add(i), at)
             });
@@ -124,7 +126,7 @@ fn compare_line(recorded: &Recorded, line: &str, so_far: Comparison) -> Option<C
             next.differing = next.differing.saturating_add(differing);
         }
         "P" => {
-            let place = (number(words.next())?, number(words.next())?);
+            let place = (parsed(words.next())?, parsed(words.next())?);
             let differing = elsewhere(recorded.chunk, place, |_, at| {
                 has_parity(&recorded.layout, at)
             });

@@ -1,12 +1,8 @@
-use Rattle.layout.proofs.Groups.{led_some, led_none}
+use Rattle.std.proofs.Common.{rules}
+use Rattle.layout.proofs.Groups.{led}
 use Rattle.layout.proofs.led_group.Goals as goal
 
-pub returns-then-peer-sector : goal.returns-then-peer-sector
-returns-then-peer-sector g c =
-    led_some (g.L.Layout.geometry c.args.layout.now) (g.met.L.Layout.lawful c.args.layout.now) c.args.sector
-    c.in_ok-group.group c.peer.result c.in_ok-group.ensures c.peer.ensures c.if-peer-sector.true
-
-pub returns-else-peer-sector : goal.returns-else-peer-sector
-returns-else-peer-sector g c =
-    led_none (g.L.Layout.geometry c.args.layout.now) (g.met.L.Layout.lawful c.args.layout.now) c.args.sector
-    c.in_ok-group.group c.peer.result c.in_ok-group.ensures c.peer.ensures c.if-peer-sector.false
+pub returns : goal.returns
+returns g c =
+    led (g.L.Layout.geometry c.args.layout.now) (g.met.L.Layout.lawful c.args.layout.now) c.args.sector c.group.result c.filter.result _ c.group.ensures c.filter.ensures
+    (λ x first below some asked. search rules)

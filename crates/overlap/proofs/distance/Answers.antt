@@ -1,7 +1,7 @@
-use Rattle.std.proofs.Common.{◌≡◌, ℕ, ap, ◌∙◌, arith}
-use Rattle.overlap.specs.Needs.{ahead_of, distance_of, most, need_of, reach_of}
+use Rattle.std.proofs.Common.{◌≡◌, ℕ, refl, ap, arith}
+use Rattle.overlap.specs.Needs.{ahead_of, most, need_of, reach_of}
 use Rattle.overlap.proofs.Most.{most_more}
-use Rattle.overlap.proofs.Windows.{ahead_is, enough}
+use Rattle.overlap.proofs.Windows.{enough}
 use Rattle.overlap.proofs.distance.Goals as goal
 
 pub loop-row-preserved : goal.loop-row-preserved
@@ -10,24 +10,14 @@ loop-row-preserved g c =
     let t = g.New.Layout.geometry c.args.target.now in
     let ahead : ℕ → ℕ = λ r. ahead_of s t c.args.size (reach_of s t c.args.size r) r in
     let reach : c.max-reach.result ≡ reach_of s t c.args.size c.loop-row.row =
-    most_more (need_of s t c.args.size) c.loop-row.row c.loop-row.reach c.need.result c.max-reach.result c.loop-row.invariant.0 c.need.ensures.value c.max-reach.ensures in (
-      reach,
-      most_more ahead c.loop-row.row c.loop-row.most c.window.result c.max-most.result c.loop-row.invariant.1
-          (ahead_is s t c.args.size c.max-reach.result (reach_of s t c.args.size c.loop-row.row) c.row_len.result c.row_len-in-loop-row.result c.loop-row.row c.window.result
-          reach c.row_len.ensures c.row_len-in-loop-row.ensures c.window.ensures)
-          c.max-most.ensures,
-    )
+    most_more (need_of s t c.args.size) c.loop-row.row c.loop-row.reach c.need.result c.max-reach.result c.loop-row.invariant.0 c.need.ensures.value c.max-reach.ensures in
+    let walk = c.of-walk.ensures in
+    let window : c.window.result ≡ ahead c.loop-row.row = rw (c.window.ensures, walk.source_len, walk.target_len, walk.settled, walk.size, reach) refl in
+    (reach, most_more ahead c.loop-row.row c.loop-row.most c.window.result c.max-most.result c.loop-row.invariant.1 window c.max-most.ensures)
 
-pub invariant_of-walk : goal.invariant_of-walk
-invariant_of-walk g c =
-    let old = (g.met.Old.Layout.lawful c.args.source.now).limits in
-    let new = (g.met.New.Layout.lawful c.args.target.now).limits in
-    record { rows = omega (arith, old, new) }
-
-pub returns : goal.returns
-returns g c =
+pub returns-clause-enough : goal.returns-clause-enough
+returns-clause-enough g c p q h =
     let s = g.Old.Layout.geometry c.args.source.now in
     let t = g.New.Layout.geometry c.args.target.now in
     let all : c.loop-row.row ≡ t.rows = omega arith in
-    let is : c.loop-row.most ≡ distance_of s t c.args.size = c.loop-row.invariant.1 ∙ ap (most (λ r. ahead_of s t c.args.size (reach_of s t c.args.size r) r)) all in
-    record { value = is; enough = λ p q h. omega (arith, is, enough s t c.args.size p q h) }
+    omega (arith, c.loop-row.invariant.1, ap (most (λ r. ahead_of s t c.args.size (reach_of s t c.args.size r) r)) all, enough s t c.args.size p q h)

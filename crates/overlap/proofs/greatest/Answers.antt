@@ -14,6 +14,3 @@ loop-number-preserved g c = (
       let asked = same i c.ask.result (omega arith) (subst (λ n. goal.F-post g c.args.ask n c.ask.result) (sym at) (search of_calls)) in
       most_more h i c.loop-number.most c.ask.result c.max-most.result (c.loop-number.invariant.1 h same) asked c.max-most.ensures ∙ ap (most h) next,
 )
-
-pub returns : goal.returns
-returns g c h same = c.loop-number.invariant.1 h same ∙ ap (most h) (omega arith)

@@ -1,6 +1,6 @@
 use Rattle.std.proofs.Common.{rules}
 use Rattle.layout.proofs.Labels.{parts}
-use Rattle.layout.proofs.label.Label.from_bytes.Goals as goal
+use Rattle.layout.proofs.label.LabelFieldLABEL.from_bytes.Goals as goal
 
 pub returns-clause-back : goal.returns-clause-back
 returns-clause-back c =

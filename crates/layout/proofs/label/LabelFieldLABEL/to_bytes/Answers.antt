@@ -1,7 +1,7 @@
 use Rattle.std.proofs.Common.{refl, sym, ap, ◌∙◌}
 use Rattle.layout.specs.Bytes.{le, from_le, label_bytes, label_of}
 use Rattle.layout.proofs.Labels.{of_label}
-use Rattle.layout.proofs.label.Label.to_bytes.Goals as goal
+use Rattle.layout.proofs.label.LabelFieldLABEL.to_bytes.Goals as goal
 
 pub returns-clause-bytes : goal.returns-clause-bytes
 unfolding le
