@@ -1,5 +1,5 @@
 -- What a schedule has in store for each operation.
-use Rattle.std.specs.Prelude.{ℕ, ◌-◌, min, Bool, true, false, cond, List, [], ◌∷◌, length, ◌==◌, nat_lt, slice_index, slice_set}
+use Rattle.std.specs.Prelude.{ℕ, ◌-◌, min, Bool, true, false, cond, List, [], ◌∷◌, Option, Some, None, length, ◌==◌, nat_lt, slice_index, slice_set}
 use Rattle.drill.specs.declared.schedule.Incident.{Incident}
 use Rattle.drill.specs.declared.schedule.Kind.{Kind}
 use Rattle.drill.specs.declared.schedule.Kind.TheVariants.{CutBefore, CutAfter, Lose}
@@ -16,6 +16,15 @@ decides (Lose m) later = later
 abbrev pub power_at_lem : List Incident → ℕ → Power
 power_at_lem [] n = Stays
 power_at_lem (i ∷ is) n = cond (i.at == n) (decides i.kind (power_at_lem is n)) (power_at_lem is n)
+
+-- what one incident makes of it at operation n, if it is a cut that is due then
+abbrev pub cut_of : Kind → Option Power
+cut_of CutBefore = Some GoesBefore
+cut_of CutAfter = Some GoesAfter
+cut_of (Lose m) = None
+
+abbrev pub cut_by : Incident → ℕ → Option Power
+cut_by i n = cond (i.at == n) (cut_of i.kind) None
 
 -- whether it goes before the operation has any effect
 abbrev pub goes_before : Power → Bool

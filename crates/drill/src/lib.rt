@@ -4,18 +4,22 @@
 ghost use Rattle.std.specs.Prelude.{◌≡◌, ◌<◌, true, false, length, Err};
 ghost use Rattle.shelf.specs.Answers.{done};
 ghost use Rattle.shelf.specs.Meaning.{Flushed, Ranged, Reads, Restarts, Writes};
-ghost use Rattle.drill.specs.Drills.{Begun, Darkens, DrillRestarts, Drilled, Timed, counted, dark_after, drill_meaning, inner_meaning, power_next, ticked};
+ghost use Rattle.shelf.specs.Trials.{means};
+ghost use Rattle.drill.specs.Drills.{Begun, Darkens, DrillRestarts, Drilled, Timed, counted, dark_after, drill_meaning, drill_of, new_drill, power_next, ticked, with_choices, with_incidents};
 ghost use Rattle.drill.specs.Schedules.{losing_at, word_at};
 ghost use Rattle.shelf.specs.declared.Failure.TheVariants.{Off};
 ghost use Rattle.drill.specs.declared.schedule.Power.TheVariants.{GoesAfter, GoesBefore};
 ghost use Rattle.std.proofs.Common.{rules};
 
+use choices::Choices;
 use schedule::Power;
 use sector::Sector;
 use shelf::image::Image;
 use shelf::trial::TrialShelf;
 use shelf::{Answer, Failure, Shelf};
+use std::marker::Model;
 
+mod choices;
 mod schedule;
 mod through;
 
@@ -29,23 +33,31 @@ pub struct DrillShelf {
     dark: bool,
     // the number of the next operation: those in range count while the power is on, and restarts always
     clock: u64,
+    // a short list in its writer's order, since the first cut that is due counts, and a map would lose the order
     incidents: Vec<Incident>,
-    choices: Vec<u32>,
-    restarts: usize,
+    choices: Choices,
+}
+
+// Clauses see the state of the shelf within, whether it is dark, the clock, the schedule, the choice words, and how many of them restarts have taken.
+impl Model for DrillShelf {
+    ghost use Rattle.drill.specs.Drills.{Drill, drill_of};
+
+    ghost Value = { Drill };
+
+    ghost view = { λ d. drill_of d.inner d.dark d.clock d.incidents.items d.choices.words.items d.choices.taken };
 }
 
 impl DrillShelf {
     // A drill shelf at operation 0. Restart n takes the choice word n, or the last one where there are fewer.
     pub fn new(inner: TrialShelf, incidents: Vec<Incident>, choices: Vec<u32>) -> DrillShelf
-        ensures { result ≡ record { inner = inner; dark = false; clock = 0; incidents = incidents; choices = choices; restarts = 0 } }
+        ensures { result ≡ new_drill inner incidents.items choices.items }
     {
         DrillShelf {
             inner,
             dark: false,
             clock: 0,
             incidents,
-            choices,
-            restarts: 0,
+            choices: Choices::new(choices),
         }
     }
 
@@ -59,7 +71,6 @@ impl DrillShelf {
             clock: _,
             incidents: _,
             choices: _,
-            restarts: _,
         } = self;
         inner
     }
@@ -73,24 +84,23 @@ impl DrillShelf {
 
     // Sets another schedule; its numbers are those of the clock, which goes on.
     pub fn set_incidents(&mut self, incidents: Vec<Incident>)
-        ensures { let a = self.old in self.new ≡ record { inner = a.inner; dark = a.dark; clock = a.clock; incidents = incidents; choices = a.choices; restarts = a.restarts } }
+        ensures { self.new ≡ with_incidents self.old incidents.items }
     {
         self.incidents = incidents;
     }
 
     // Sets other choice words, from the next restart on.
     pub fn set_choices(&mut self, choices: Vec<u32>)
-        ensures { let a = self.old in self.new ≡ record { inner = a.inner; dark = a.dark; clock = a.clock; incidents = a.incidents; choices = choices; restarts = 0 } }
+        ensures { self.new ≡ with_choices self.old choices.items }
     {
-        self.choices = choices;
-        self.restarts = 0;
+        self.choices = Choices::new(choices);
     }
 
     // Counts an operation and lets the losses happen that are due at it. Answers what becomes of the power.
     fn strike(&mut self) -> Power
         ensures power { result ≡ power_next self.old }
-        ensures inner { inner_meaning self.new.inner ≡ inner_meaning self.old.inner }
-        ensures losing { let a = self.old in self.new.inner.controls.losing ≡ losing_at a.inner.members a.incidents.items a.clock a.inner.controls.losing }
+        ensures inner { means self.new.inner ≡ means self.old.inner }
+        ensures losing { let a = self.old in self.new.inner.controls.losing ≡ losing_at a.inner.members a.incidents a.clock a.inner.controls.losing }
         ensures dark { self.new.dark ≡ self.old.dark }
         ensures timed { Timed (ticked self.old.clock) self.old self.new }
     {
@@ -136,13 +146,12 @@ impl DrillShelf {
 
     // Hands the shelf within the choice word of this restart.
     fn choose(&mut self)
-        ensures inner { inner_meaning self.new.inner ≡ inner_meaning self.old.inner }
-        ensures word { let a = self.old in self.new.inner.controls.choice ≡ word_at a.choices.items a.restarts }
-        ensures rest { let a = self.old in let b = self.new in b ≡ record { inner = b.inner; dark = a.dark; clock = a.clock; incidents = a.incidents; choices = a.choices; restarts = ticked a.restarts } }
+        ensures inner { means self.new.inner ≡ means self.old.inner }
+        ensures word { let a = self.old in self.new.inner.controls.choice ≡ word_at a.choices a.restarts }
+        ensures rest { let a = self.old in self.new ≡ drill_of self.new.inner a.dark a.clock a.incidents a.choices (ticked a.restarts) }
     {
-        self.inner
-            .set_choice(schedule::word_at(&self.choices, self.restarts));
-        self.restarts = self.restarts.saturating_add(1);
+        let word = self.choices.next();
+        self.inner.set_choice(word);
     }
 
     // Restarts the shelf within; where the power goes at the end, the sectors are out, and the drill shelf is dark over them.

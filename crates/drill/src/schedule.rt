@@ -1,7 +1,7 @@
 // Schedules: what is to happen at which operation.
 ghost use Rattle.std.specs.Prelude.{◌≡◌};
-ghost use Rattle.drill.specs.Drills.{inner_meaning};
-ghost use Rattle.drill.specs.Schedules.{losing_at, lost_by, power_at_lem, word_at};
+ghost use Rattle.shelf.specs.Trials.{means};
+ghost use Rattle.drill.specs.Schedules.{cut_by, losing_at, lost_by, power_at_lem};
 
 use shelf::trial::TrialShelf;
 
@@ -31,25 +31,35 @@ pub enum Power {
     GoesAfter,
 }
 
+impl Incident {
+    // What becomes of the power at an operation, if this is a cut that is due then.
+    fn cut(self, clock: u64) -> Option<Power>
+        ensures { result ≡ cut_by self clock }
+    {
+        if self.at != clock {
+            return None;
+        }
+        match self.kind {
+            Kind::CutBefore => Some(Power::GoesBefore),
+            Kind::CutAfter => Some(Power::GoesAfter),
+            Kind::Lose(_) => None,
+        }
+    }
+}
+
 // What becomes of the power at an operation: the first cut that is due decides.
 pub fn power_at(incidents: &[Incident], clock: u64) -> Power
     ensures { result ≡ power_at_lem incidents.now clock }
 {
-    for incident in incidents {
-        if incident.at == clock {
-            match incident.kind {
-                Kind::CutBefore => return Power::GoesBefore,
-                Kind::CutAfter => return Power::GoesAfter,
-                Kind::Lose(_) => {}
-            }
-        }
-    }
-    Power::Stays
+    incidents
+        .iter()
+        .find_map(|incident| incident.cut(clock))
+        .unwrap_or(Power::Stays)
 }
 
 // Has the shelf lose the member of an incident, where it is a loss and due.
 fn lose_one(shelf: &mut TrialShelf, incident: Incident, clock: u64)
-    ensures meaning { inner_meaning shelf.new ≡ inner_meaning shelf.old }
+    ensures meaning { means shelf.new ≡ means shelf.old }
     ensures losing { let a = shelf.old in shelf.new.controls.losing ≡ lost_by a.members incident clock a.controls.losing }
 {
     if incident.at == clock {
@@ -65,21 +75,10 @@ fn lose_one(shelf: &mut TrialShelf, incident: Incident, clock: u64)
 
 // Has the shelf lose the members that are due at an operation.
 pub fn lose_due(shelf: &mut TrialShelf, incidents: &[Incident], clock: u64)
-    ensures meaning { inner_meaning shelf.new ≡ inner_meaning shelf.old }
+    ensures meaning { means shelf.new ≡ means shelf.old }
     ensures losing { let a = shelf.old in shelf.new.controls.losing ≡ losing_at a.members incidents.now clock a.controls.losing }
 {
     for incident in incidents {
         lose_one(shelf, *incident, clock);
-    }
-}
-
-// The choice word of restart `n`: after the list's end its last one, and 0 where it is empty.
-pub fn word_at(choices: &[u32], n: usize) -> u32
-    ensures { result ≡ word_at choices.now n }
-{
-    if choices.is_empty() {
-        0
-    } else {
-        choices[n.min(choices.len() - 1)]
     }
 }

@@ -1,5 +1,5 @@
 // The operations of a shelf by the trait's contracts alone, so that nothing above leans on how the shelf within is made.
-ghost use Rattle.std.specs.Prelude.{◌≡◌};
+// Each hands one call on: where the type is known, a shelf's own clauses would take the place of the trait's.
 ghost use Rattle.shelf.specs.Meaning.{Flushed, Reads, Restarts, Writes};
 ghost use Rattle.shelf.specs.Shown.{Shown};
 ghost use Rattle.drill.specs.Ranges.{InRangeIs, MemberIs};

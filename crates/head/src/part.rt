@@ -7,7 +7,7 @@ use layout::field::Field;
 use sector::Sector;
 
 // Reads the field at a place.
-pub fn field_at<const WIDTH: usize, F: Field<WIDTH>>(bytes: &Sector, at: usize) -> F
+pub(crate) fn field_at<const WIDTH: usize, F: Field<WIDTH>>(bytes: &Sector, at: usize) -> F
     requires { at + WIDTH ≤ 512 }
     ensures value { result ≡ F.of_bytes (between at (at + WIDTH) bytes.now) }
     ensures back { F.bytes_of result ≡ between at (at + WIDTH) bytes.now }
@@ -17,7 +17,11 @@ pub fn field_at<const WIDTH: usize, F: Field<WIDTH>>(bytes: &Sector, at: usize) 
 }
 
 // Writes a field at a place.
-pub fn put_field<const WIDTH: usize, F: Field<WIDTH>>(bytes: &mut Sector, at: usize, value: F)
+pub(crate) fn put_field<const WIDTH: usize, F: Field<WIDTH>>(
+    bytes: &mut Sector,
+    at: usize,
+    value: F,
+)
     requires { at + WIDTH ≤ 512 }
     ensures bytes { bytes.new ≡ splice bytes.old at (at + WIDTH) (F.bytes_of value) }
     ensures fits { F.of_bytes (F.bytes_of value) ≡ value }
@@ -26,7 +30,7 @@ pub fn put_field<const WIDTH: usize, F: Field<WIDTH>>(bytes: &mut Sector, at: us
 }
 
 // Whether all the bytes are zero.
-pub fn is_clear(bytes: &[u8]) -> bool
+pub(crate) fn is_clear(bytes: &[u8]) -> bool
     ensures { Tells result (bytes.now ≡ clear (length bytes.now)) }
 {
     bytes.iter().all(|byte| *byte == 0)

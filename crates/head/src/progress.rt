@@ -22,23 +22,28 @@ impl Progress {
         }
     }
 
+    // The target's settled rows and the source's kept rows.
+    fn rows(&self) -> (u64, u64)
+        ensures settled { result.0 ≡ settled_of self.now }
+        ensures kept { result.1 ≡ kept_of self.now }
+    {
+        match *self {
+            Progress::Idle => (0, 0),
+            Progress::Moving { settled, kept, .. } => (settled, kept),
+        }
+    }
+
     // The target's settled rows.
     pub fn settled(&self) -> u64
         ensures { result ≡ settled_of self.now }
     {
-        match *self {
-            Progress::Idle => 0,
-            Progress::Moving { settled, .. } => settled,
-        }
+        self.rows().0
     }
 
     // The source's kept rows.
     pub fn kept(&self) -> u64
         ensures { result ≡ kept_of self.now }
     {
-        match *self {
-            Progress::Idle => 0,
-            Progress::Moving { kept, .. } => kept,
-        }
+        self.rows().1
     }
 }

@@ -1,16 +1,11 @@
 -- A restart of the trial shelf, member by member.
-use Rattle.std.proofs.Common.{◌≡◌, ℕ, ◌+◌, ◌*◌, ◌<◌, ◌≤◌, Bool, true, false, cond, ltb, ◌⊎◌, List, [], length, get_or, take, sym, refl, ap, ◌∙◌, subst, inl, inr, add-mul, zero-add, arith}
-use Rattle.std.proofs.lemmas.Nat.{mul-le}
+use Rattle.std.proofs.Common.{◌≡◌, ℕ, ◌+◌, ◌*◌, ◌<◌, ◌≤◌, Bool, true, false, cond, ltb, ◌⊎◌, List, [], length, get_or, take, sym, refl, ap, ◌∙◌, subst, inl, inr, zero-add, arith}
 use Rattle.std.proofs.lemmas.Bool.{cases_Bool, cases_lt, cases_order, cond-true, cond-false, lt-ltb, le-ltb, both_ways}
 use Rattle.shelf.specs.Meaning.{OneContent, Restarts, Untouched}
 use Rattle.shelf.specs.Runs.{ChosenAlone, chosen_bit, chosen_of, image_of, sector_at}
 use Rattle.shelf.specs.Trials.{BroughtAlone, BroughtOneAlone, Trial, TrialRestarts, means, restarted, trial_meaning}
 use Rattle.shelf.specs.declared.controls.Controls.{Controls}
-use Rattle.shelf.proofs.Cells.{cell_inside, image_in, image_same}
-
--- the sectors of one member end where those of the next begin
-pub member_end : (z k n : ℕ) → k < n → k * z + z ≤ n * z
-member_end z k n h = omega (arith, mul-le (k + 1) z n z (omega arith) (omega arith), add-mul k 1 z)
+use Rattle.shelf.proofs.Cells.{cell_inside, image_in, image_same, member_end}
 
 -- the choice is made between what was there before
 chosen_same : (choice image : ℕ) (old run : List ℕ) (q : ℕ) → sector_at run q ≡ sector_at old q → sector_at run (image + q) ≡ sector_at old (image + q)

@@ -1,9 +1,9 @@
 -- Sectors in a run of bytes, before and after one is written.
-use Rattle.std.proofs.Common.{◌≡◌, ℕ, ◌+◌, ◌*◌, ◌/◌, ◌%◌, ◌<◌, ◌≤◌, cond, ltb, ◌⊎◌, List, [], length, take, drop, sym, ap, ◌∙◌, inl, inr, mul_comm, arith, length-drop, length-take}
+use Rattle.std.proofs.Common.{◌≡◌, ℕ, ◌+◌, ◌*◌, ◌/◌, ◌%◌, ◌<◌, ◌≤◌, cond, ltb, ◌⊎◌, List, [], length, take, drop, sym, ap, ◌∙◌, inl, inr, mul_comm, add-mul, arith, length-drop, length-take}
 use Rattle.std.proofs.lemmas.List.{same_lists, places}
 use lib.Seq.{paste}
 use Rattle.std.proofs.lemmas.List.Edits.{length-paste}
-use Rattle.std.proofs.lemmas.Nat.{mul-add-lt, div-mul-add, mod-mul-add}
+use Rattle.std.proofs.lemmas.Nat.{mul-le, mul-add-lt, div-mul-add, mod-mul-add}
 use Rattle.std.proofs.lemmas.Bool.{cases_lt, cases_order, cond-true, cond-false, lt-ltb, le-ltb}
 use Rattle.shelf.specs.Runs.{Has, PulledAlone, image_of, sector_at, sector_put}
 
@@ -64,6 +64,10 @@ image_same m z run new base k s h =
 -- a cell of the image
 pub cell_inside : (m z k s : ℕ) → k < m → s < z → k * z + s < m * z
 cell_inside m z k s a b = omega (arith, mul-add-lt k z s m a b, mul_comm z m)
+
+-- the sectors of one member end where those of the next begin
+pub member_end : (z k n : ℕ) → k < n → k * z + z ≤ n * z
+member_end z k n h = omega (arith, mul-le (k + 1) z n z (omega arith) (omega arith), add-mul k 1 z)
 
 -- two sectors in one cell are one
 pub cell_one : (z k s m t : ℕ) → s < z → t < z → k * z + s ≡ m * z + t → (k ≡ m) × (s ≡ t)

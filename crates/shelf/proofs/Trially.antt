@@ -1,14 +1,13 @@
 -- The operations of the trial shelf, by its controls and its images.
-use Rattle.std.proofs.Common.{◌≡◌, ℕ, zero, suc, ◌+◌, ◌*◌, ◌<◌, ◌≤◌, Bool, true, false, cond, ltb, ◌⊎◌, List, [], ◌∷◌, length, get_or, take, set, sym, refl, ap, ◌∙◌, subst, inl, inr, add-mul, zero-add, arith, get_or-set_other, Ok, Err}
-use Rattle.std.proofs.lemmas.Nat.{mul-le}
+use Rattle.std.proofs.Common.{◌≡◌, ℕ, zero, suc, ◌+◌, ◌*◌, ◌<◌, ◌≤◌, Bool, true, false, cond, ltb, ◌⊎◌, List, [], ◌∷◌, length, get_or, take, set, sym, refl, ap, ◌∙◌, subst, inl, inr, zero-add, arith, get_or-set_other, Ok, Err}
 use Rattle.std.proofs.lemmas.Bool.{cases_Bool, cases_eq, cases_lt, cond-true, cond-false, lt-ltb, le-ltb, both_ways}
-use Rattle.shelf.specs.Meaning.{FlushIn, Flushed, Flushes, Gives, Kept, Meaning, ReadIn, Reads, Sets, Tells, WriteIn, Writes}
+use Rattle.shelf.specs.Meaning.{FlushIn, Flushed, Flushes, Kept, Meaning, Sets, Tells, WriteIn, Writes}
 use Rattle.shelf.specs.Runs.{InRange, PulledAlone, image_of, sector_at, sector_put}
-use Rattle.shelf.specs.Trials.{FlushedRun, Trial, TrialFlushes, TrialReads, TrialWrites, answer_after, answer_of, given_by, means, struck, trial_meaning}
+use Rattle.shelf.specs.Trials.{FlushedRun, Trial, TrialFlushes, TrialWrites, answer_after, answer_of, means, struck, trial_meaning}
 use Rattle.shelf.specs.Answers.{Answer, done}
 use Rattle.shelf.specs.declared.Failure.TheVariants.{Absent, Off, OutOfRange}
 use Rattle.shelf.specs.declared.controls.Controls.{Controls}
-use Rattle.shelf.proofs.Cells.{cell_inside, cell_one, image_in, image_other, image_put, image_same}
+use Rattle.shelf.proofs.Cells.{cell_inside, cell_one, image_in, image_other, image_put, image_same, member_end}
 
 -- what an answer tells
 pub tells_after : (m z : ℕ) (run : List ℕ) (d : Controls) (k : ℕ) (r : Answer) → k < m → r ≡ answer_after d k → Tells r k (trial_meaning m z run d)
@@ -74,23 +73,6 @@ kept_after m z run new c d k lt e =
       absent_stays = λ gone. ap (λ b. cond (ltb k m) b false) (same k ∙ struck_absent c k (sym (cond-true (ltb k m) _ _ (lt-ltb k m lt)) ∙ gone)) ∙ cond-true (ltb k m) false false (lt-ltb k m lt);
       others = λ j ne. present_as m c d j (same j ∙ struck_others c k j ne);
     }
-
-pub trial_reads : (k s : ℕ) (old new : List ℕ) (a b : Trial) (r : Answer) → TrialReads k s old new a b r → Reads k s old new (means a) (means b) r
-trial_reads k s old new a b r h = record {
-  inside = λ q. (let f = h.inside q in
-      subst (λ x. ReadIn k s old new (means a) (means x) r) (sym f.0) (record {
-        kept = kept_after a.members a.sectors a.run a.run a.controls (struck a.controls k) k q.member_below refl;
-        settles = record { settled = λ j t. inl refl };
-        current = λ j t. refl;
-        tells = tells_after a.members a.sectors a.run (struck a.controls k) k r q.member_below f.1;
-        gives = gives_by r _ _ old new (sym (image_in a.members a.sectors a.run (a.members * a.sectors) k s q.member_below q.sector_below)) f.2;
-      }));
-  outside = λ no. (let f = h.outside no in (f.1, ap means f.0, f.2));
-}
-  where
-    gives_by : (r : Answer) (x y old new : List ℕ) → x ≡ y → new ≡ given_by r x old → Gives r y old new
-    gives_by (Ok u) x y old new e f = f ∙ e
-    gives_by (Err u) x y old new e f = f
 
 -- a write that reached the member's current image
 reached : (m z : ℕ) (run : List ℕ) (c : Controls) (k s : ℕ) (bytes : List ℕ) (r : Answer) → m * z * 2 * 512 ≤ length run → InRange m z k s (length bytes)
@@ -179,7 +161,7 @@ settled_member : (m z : ℕ) (run : List ℕ) (c d : Controls) (k : ℕ) (new : 
     → PulledAlone (m * z) (k * z) (k * z + z) run new → FlushIn k (trial_meaning m z run c) (trial_meaning m z new d) done
 settled_member m z run c d k new lt e tell p =
     let current : (j t : ℕ) → image_of m z new (m * z) j t ≡ image_of m z run (m * z) j t = λ j t. image_same m z run new (m * z) j t (λ a b.
-    ap (take 512) (p.rest ((m * z + (j * z + t)) * 512) (omega (arith, cell_end m z k lt)))) in
+    ap (take 512) (p.rest ((m * z + (j * z + t)) * 512) (omega (arith, member_end z k m lt)))) in
     record {
       kept = kept_after m z run new c d k lt e;
       settles = record { settled = λ j t. settled_or m z run new k j t p };
@@ -188,9 +170,6 @@ settled_member m z run c d k new lt e tell p =
       flushes = λ t. settled_now m z run new k t lt p ∙ sym (current k t);
     }
   where
-    cell_end : (m z k : ℕ) → k < m → k * z + z ≤ m * z
-    cell_end m z k h = omega (arith, mul-le (k + 1) z m z (omega arith) (omega arith), add-mul k 1 z)
-
     settled_now : (m z : ℕ) (run new : List ℕ) (k t : ℕ) → k < m → PulledAlone (m * z) (k * z) (k * z + z) run new
         → image_of m z new 0 k t ≡ image_of m z run (m * z) k t
     settled_now m z run new k t lt p = elim (cases_lt t z) [
@@ -210,8 +189,8 @@ settled_member m z run c d k new lt e tell p =
       where
         apart : (j t : ℕ) → t < z → (j ≡ k → ⊥) → (0 + (j * z + t) < k * z) ⊎ (k * z + z ≤ 0 + (j * z + t))
         apart j t b ne = elim (cases_lt j k) [
-          | inl less ↦ inl (omega (arith, mul-le (j + 1) z k z (omega arith) (omega arith), add-mul j 1 z))
-          | inr more ↦ inr (omega (arith, mul-le (k + 1) z j z (omega arith) (omega arith), add-mul k 1 z))
+          | inl less ↦ inl (omega (arith, member_end z j k less))
+          | inr more ↦ inr (omega (arith, member_end z k j (omega arith)))
         ]
 
         kept_cell : (q : ℕ) → (q < k * z) ⊎ (k * z + z ≤ q) → sector_at new q ≡ sector_at run q

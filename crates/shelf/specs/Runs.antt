@@ -1,5 +1,5 @@
 -- Sectors in a run of bytes.
-use Rattle.std.specs.Prelude.{◌≡◌, ℕ, ◌+◌, ◌*◌, ◌/◌, ◌%◌, ◌^◌, ◌<◌, ◌≤◌, Bool, cond, List, [], length, take, drop, Ok, Err, Result, ◌==◌, bit_and, nat_lt}
+use Rattle.std.specs.Prelude.{◌≡◌, ℕ, ◌+◌, ◌-◌, ◌*◌, ◌/◌, ◌%◌, ◌^◌, ◌<◌, ◌≤◌, Bool, cond, List, [], length, replicate, take, drop, Some, None, Option, Ok, Err, Result, ◌==◌, bit_and, nat_lt}
 use Rattle.answer.specs.declared.Refusal.{Refusal}
 use Rattle.answer.specs.declared.Refusal.TheVariants.{OutOfLimits}
 use Rattle.shelf.specs.declared.Failure.{Failure}
@@ -18,7 +18,14 @@ sector_put run at bytes = paste run (at * 512) bytes 512
 abbrev pub image_of : (members sectors : ℕ) → List ℕ → ℕ → ℕ → ℕ → List ℕ
 image_of m z run base k s = cond (nat_lt k m) (cond (nat_lt s z) (sector_at run (base + (k * z + s))) []) []
 
--- members and sectors within the limits, and a run of just so many images
+-- members and sectors within the limits
+pub record Within (members sectors : ℕ) : Type 0 where
+  pub least : 2 ≤ members
+  pub few : members ≤ 16
+  pub some : 1 ≤ sectors
+  pub short : sectors ≤ 33554432
+
+-- the same, and a run of just so many images
 pub record RunOf (members sectors images bytes : ℕ) : Type 0 where
   pub least : 2 ≤ members
   pub few : members ≤ 16
@@ -36,6 +43,11 @@ pub record MadeOf (members sectors images bytes m z : ℕ) : Type 0 where
   pub fits : RunOf members sectors images bytes → (m ≡ members) × (z ≡ sectors)
   pub unfit : (RunOf members sectors images bytes → ⊥) → (m ≡ 2) × (z ≡ 0)
 
+-- a new shelf of zeros: what was asked for where it is within the limits, else 2 members without sectors, over no bytes
+pub record BlankOf (members sectors images m z : ℕ) (run : List ℕ) : Type 0 where
+  pub fits : Within members sectors → (m ≡ members) × (z ≡ sectors) × (run ≡ replicate (members * sectors * images * 512) 0)
+  pub unfit : (Within members sectors → ⊥) → (m ≡ 2) × (z ≡ 0) × (run ≡ [])
+
 -- a member, a sector and a buffer in range
 pub record InRange (members sectors member sector length : ℕ) : Type 0 where
   pub member_below : member < members
@@ -50,6 +62,11 @@ pub record CellAt (members sectors member sector at : ℕ) : Type 0 where
 abbrev pub Cell : ℕ → ℕ → ℕ → ℕ → ℕ → Result ℕ Failure → Type 0
 Cell m z k s n (Ok a) = InRange m z k s n × CellAt m z k s a
 Cell m z k s n (Err e) = (e ≡ OutOfRange) × (InRange m z k s n → ⊥)
+
+-- what stands in a sector of the last of so many images, if it is in range
+abbrev pub InLastImage : (m z images : ℕ) → List ℕ → ℕ → ℕ → Option (List ℕ) → Type 0
+InLastImage m z n run k s (Some content) = (k < m) × (s < z) × (content ≡ image_of m z run ((n - 1) * (m * z)) k s)
+InLastImage m z n run k s None = (k < m) × (s < z) → ⊥
 
 -- a sector q of a run
 abbrev pub Has : List ℕ → ℕ → Type 0

@@ -4,7 +4,7 @@ ghost use Rattle.shelf.specs.Trials.{answer_after, struck};
 
 use crate::{Answer, Failure};
 
-// a fuse that never goes
+// a fuse that never goes; a number, since a fuse is set from outside as one of 32 bits, and the documents give this one its meaning
 pub const NEVER: u32 = 4_294_967_295;
 
 #[derive(Clone, Copy)]
@@ -14,14 +14,24 @@ pub struct Controls {
     pub fuse: u32,
     // for each sector, by its place modulo 32, whether a restart brings out what is current
     pub choice: u32,
+    // two sets of members rather than pairs: they are read apart, and together in one operation alone
     pub present: [bool; 16],
     // members that will be found absent at their next operation
     pub losing: [bool; 16],
 }
 
 impl Controls {
+    // Those of a new shelf: it is on, with every member, and nothing is set to happen.
+    pub const NEW: Controls = Controls {
+        on: true,
+        fuse: NEVER,
+        choice: 0,
+        present: [true; 16],
+        losing: [false; 16],
+    };
+
     // One operation on a member: while the shelf is on, a loss shows and the fuse burns. Answers how the shelf is afterwards.
-    pub fn strike(&mut self, member: u64) -> Answer
+    pub(crate) fn strike(&mut self, member: u64) -> Answer
         requires { member < 16 }
         ensures after { self.new ≡ struck self.old member }
         ensures answer { result ≡ answer_after self.new member }

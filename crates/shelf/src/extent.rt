@@ -1,12 +1,11 @@
 // The extent of a shelf, and where its sectors lie in an image.
-ghost use Rattle.std.specs.Prelude.{◌≡◌, ◌+◌, ◌*◌, ◌<◌, ◌≤◌, MatchResult};
+ghost use Rattle.std.specs.Prelude.{◌≡◌, ◌+◌, ◌*◌, ◌<◌, ◌≤◌, MatchOption, MatchResult};
 ghost use Rattle.answer.specs.declared.Refusal.TheVariants.{OutOfLimits};
-ghost use Rattle.shelf.specs.Runs.{Cell, RunOf};
+ghost use Rattle.shelf.specs.Runs.{Cell, RunOf, Within};
 
 use crate::{Failure, LEAST_MEMBERS, MOST_MEMBERS, MOST_SECTORS};
 use answer::Refusal;
 use sector::SECTOR;
-use std::ops::Range;
 
 // The members of a shelf and the sectors of each, within the limits. In an image the sectors of member 0 come first, then those of member 1, and so on.
 #[derive(Clone, Copy)]
@@ -18,7 +17,20 @@ pub(crate) struct Extent {
 }
 
 impl Extent {
-    // The extent, if the limits allow it and the run has the bytes of just so many images.
+    // The extent of so many members with so many sectors, if the limits allow it.
+    pub(crate) fn within(members: u64, sectors: u64) -> Option<Extent>
+        ensures { MatchOption result (Within members sectors → ⊥) (λ e. Within members sectors × (e.members ≡ members) × (e.sectors ≡ sectors)) }
+    {
+        if (LEAST_MEMBERS..=MOST_MEMBERS).contains(&members)
+            && (1..=MOST_SECTORS).contains(&sectors)
+        {
+            Some(Extent { members, sectors })
+        } else {
+            None
+        }
+    }
+
+    // The same, if a run of so many bytes has just so many images of it.
     pub(crate) fn of(
         members: u64,
         sectors: u64,
@@ -28,18 +40,17 @@ impl Extent {
         requires { images ≤ 2 }
         ensures { MatchResult result (λ e. RunOf members sectors images bytes × (e.members ≡ members) × (e.sectors ≡ sectors)) (λ e. (e ≡ OutOfLimits) × (RunOf members sectors images bytes → ⊥)) }
     {
-        if members < LEAST_MEMBERS
-            || members > MOST_MEMBERS
-            || sectors == 0
-            || sectors > MOST_SECTORS
-        {
-            return Err(Refusal::OutOfLimits);
-        }
-        if bytes as u64 == members * sectors * images * SECTOR as u64 {
-            Ok(Extent { members, sectors })
-        } else {
-            Err(Refusal::OutOfLimits)
-        }
+        Extent::within(members, sectors)
+            .filter(|extent| extent.bytes(images) == bytes)
+            .ok_or(Refusal::OutOfLimits)
+    }
+
+    // The bytes of so many images.
+    pub(crate) fn bytes(self, images: u64) -> usize
+        requires { images ≤ 2 }
+        ensures { result ≡ self.members * self.sectors * images * 512 }
+    {
+        self.image() * images as usize * SECTOR
     }
 
     // The sectors of one image.
@@ -49,15 +60,19 @@ impl Extent {
         (self.members * self.sectors) as usize
     }
 
-    // Where a member's sectors lie in an image.
-    pub(crate) fn column(self, member: u64) -> Range<usize>
+    // A member's sectors.
+    pub(crate) fn column(self, member: u64) -> Column
         requires { member < self.members }
+        ensures image { result.image ≡ self.members * self.sectors }
         ensures start { result.start ≡ member * self.sectors }
         ensures end { result.end ≡ member * self.sectors + self.sectors }
-        ensures inside { result.end ≤ self.members * self.sectors }
     {
         let start = (member * self.sectors) as usize;
-        start..start + self.sectors as usize
+        Column {
+            image: self.image(),
+            start,
+            end: start + self.sectors as usize,
+        }
     }
 
     // Where a sector lies in an image, if it and a buffer of this length are in range.
@@ -70,4 +85,14 @@ impl Extent {
             Err(Failure::OutOfRange)
         }
     }
+}
+
+// The sectors of a member, from `start` up to `end` in the first of two images; in the second each lies `image` sectors further on.
+#[derive(Clone, Copy)]
+pub(crate) struct Column {
+    pub(crate) image: usize,
+    pub(crate) start: usize,
+    pub(crate) end: usize,
+    ghost ordered: { start ≤ end },
+    ghost apart: { end ≤ image },
 }

@@ -1,16 +1,16 @@
 // The plain shelf: a run of bytes that settles each write, stays on and loses no member.
-ghost use Rattle.std.specs.Prelude.{◌≡◌, ◌*◌, ◌≤◌, length};
+ghost use Rattle.std.specs.Prelude.{◌≡◌, ◌*◌, ◌≤◌, length, IfOk};
 ghost use Rattle.shelf.specs.Meaning.{Flushed, Reads, Restarts, Writes};
 ghost use Rattle.shelf.specs.Plains.{PlainFlushes, PlainMade, PlainReads, PlainRestarts, PlainWrites, Steady, plain_means};
-ghost use Rattle.shelf.specs.Runs.{FitsRun};
+ghost use Rattle.shelf.specs.Runs.{BlankOf, FitsRun};
 ghost use Rattle.std.proofs.Common.{rules, arith};
 
-use crate::extent::Extent;
 use crate::image::Image;
 use crate::images::Images;
 use crate::{Answer, Failure, Shelf};
 use answer::Refusal;
-use sector::{SECTOR, Sector, zeros};
+use sector::Sector;
+use std::alloc::{AllocError, Global};
 use std::marker::Model;
 
 // One image of its sectors.
@@ -33,8 +33,7 @@ impl PlainShelf {
     pub fn fits(members: u64, sectors: u64, bytes: usize) -> Result<(), Refusal>
         ensures { FitsRun members sectors 1 bytes result }
     {
-        Extent::of(members, sectors, 1, bytes)?;
-        Ok(())
+        Images::<1>::fits(members, sectors, bytes)
     }
 
     // A shelf over a run of bytes; where they do not fit, one of 2 members without sectors.
@@ -44,6 +43,15 @@ impl PlainShelf {
         PlainShelf {
             images: Images::over(members, sectors, bytes),
         }
+    }
+
+    // A shelf of zeros; where the limits are not kept, one of 2 members without sectors.
+    pub fn blank(heap: Global, members: u64, sectors: u64) -> Result<PlainShelf, AllocError>
+        ensures { IfOk result (λ s. BlankOf members sectors 1 s.members s.sectors s.run) }
+    {
+        Ok(PlainShelf {
+            images: Images::blank(heap, members, sectors)?,
+        })
     }
 
     // The run of bytes, as the shelf left it.
@@ -89,7 +97,7 @@ impl Shelf for PlainShelf {
         ensures steady { Steady (plain_means self.old) (plain_means self.new) }
     {
         let at = self.images.cell(member, sector, buffer.len())?;
-        self.images.load(at, buffer);
+        buffer.copy_from_slice(self.images.sector_at(at));
         Ok(())
     }
 
@@ -99,7 +107,7 @@ impl Shelf for PlainShelf {
         ensures steady { Steady (plain_means self.old) (plain_means self.new) }
     {
         let at = self.images.cell(member, sector, buffer.len())?;
-        self.images.store(at, buffer);
+        self.images.store(at, buffer.try_into().unwrap());
         Ok(())
     }
 
@@ -127,11 +135,6 @@ impl Shelf for PlainShelf {
 
 impl Image for PlainShelf {
     fn current(&self, member: u64, sector: u64) -> Option<Sector> {
-        let Ok(cell) = self.images.cell(member, sector, SECTOR) else {
-            return None;
-        };
-        let mut content = zeros();
-        self.images.load(cell, &mut content);
-        Some(content)
+        self.images.current(member, sector)
     }
 }

@@ -1,50 +1,44 @@
-// Sectors in a run of bytes.
+// Sectors in a run of bytes. That a sector lies in the run is asked of each caller: a run that is written is a slice, which has no field to carry it.
 ghost use Rattle.std.specs.Prelude.{◌≡◌, ◌+◌, ◌*◌, ◌≤◌, length, if◌then◌else◌};
 ghost use Rattle.shelf.specs.Runs.{ChosenAlone, Has, PulledAlone, chosen_bit, sector_at, sector_put};
 
-use sector::SECTOR;
-use std::ops::Range;
+use crate::extent::Column;
+use sector::{SECTOR, Sector};
 
-// Copies sector `at` of the run into the buffer.
-pub(crate) fn load(run: &[u8], at: usize, buffer: &mut [u8])
-    requires inside { at * 512 + 512 ≤ length run.now }
-    requires long { length buffer.old ≡ 512 }
-    ensures { buffer.new ≡ sector_at run.now at }
+// Sector `at` of the run.
+pub(crate) fn sector_at(run: &[u8], at: usize) -> &Sector
+    requires { Has run.now at }
+    ensures { result.now ≡ sector_at run.now at }
 {
-    let from = at * SECTOR;
-    buffer.copy_from_slice(&run[from..from + SECTOR]);
+    run[at * SECTOR..].first_chunk().unwrap()
 }
 
-// Copies the buffer into sector `at` of the run.
-pub(crate) fn store(run: &mut [u8], at: usize, buffer: &[u8])
-    requires inside { at * 512 + 512 ≤ length run.old }
-    requires long { length buffer.now ≡ 512 }
-    ensures { run.new ≡ sector_put run.old at buffer.now }
+// Copies a content into sector `at` of the run.
+pub(crate) fn store(run: &mut [u8], at: usize, content: &Sector)
+    requires { Has run.old at }
+    ensures { run.new ≡ sector_put run.old at content.now }
 {
     let from = at * SECTOR;
-    run[from..from + SECTOR].copy_from_slice(buffer);
+    run[from..from + SECTOR].copy_from_slice(content);
 }
 
 // Copies one sector of the run over another.
-pub(crate) fn copy(run: &mut [u8], from: usize, to: usize)
+fn copy(run: &mut [u8], from: usize, to: usize)
     requires from { Has run.old from }
     requires to { Has run.old to }
     ensures { run.new ≡ sector_put run.old to (sector_at run.old from) }
 {
-    let mut content = [0; SECTOR];
-    load(run, from, &mut content);
+    let content = *sector_at(run, from);
     store(run, to, &content);
 }
 
-// Copies the sectors of a column there from `image` sectors further on.
-pub(crate) fn pull(run: &mut [u8], image: usize, column: Range<usize>)
-    requires apart { column.end ≤ image }
-    requires fits { (image + column.end) * 512 ≤ length run.old }
-    ensures { column.start ≤ column.end → PulledAlone image column.start column.end run.old run.new }
+// Copies the sectors of a column from the second image into the first.
+pub(crate) fn pull(run: &mut [u8], column: Column)
+    requires { (column.image + column.end) * 512 ≤ length run.old }
+    ensures { PulledAlone column.image column.start column.end run.old run.new }
 {
-    let Range { start, end } = column;
-    for at in start..end {
-        copy(run, image + at, at);
+    for at in column.start..column.end {
+        copy(run, column.image + at, at);
     }
 }
 
@@ -68,14 +62,12 @@ fn choose_one(run: &mut [u8], choice: u32, image: usize, at: usize)
     }
 }
 
-// Makes each of the sectors of a column one with the one `image` sectors further on.
-pub(crate) fn choose(run: &mut [u8], choice: u32, image: usize, column: Range<usize>)
-    requires apart { column.end ≤ image }
-    requires fits { (image + column.end) * 512 ≤ length run.old }
-    ensures { column.start ≤ column.end → ChosenAlone choice image column.start column.end run.old run.new }
+// Makes each of the sectors of a column one with the one in the other image.
+pub(crate) fn choose(run: &mut [u8], choice: u32, column: Column)
+    requires { (column.image + column.end) * 512 ≤ length run.old }
+    ensures { ChosenAlone choice column.image column.start column.end run.old run.new }
 {
-    let Range { start, end } = column;
-    for at in start..end {
-        choose_one(run, choice, image, at);
+    for at in column.start..column.end {
+        choose_one(run, choice, column.image, at);
     }
 }

@@ -1,20 +1,27 @@
 // The trial shelf: keeps what is settled apart from what is current, and loses power and members where it is told to.
-ghost use Rattle.std.specs.Prelude.{◌≡◌, ◌*◌, ◌≤◌, length};
+ghost use Rattle.std.specs.Prelude.{◌≡◌, ◌*◌, ◌≤◌, length, IfOk};
 ghost use Rattle.shelf.specs.Fuses.{ControlsStand};
 ghost use Rattle.shelf.specs.Meaning.{Flushed, Reads, Restarts, Writes};
-ghost use Rattle.shelf.specs.Runs.{FitsRun};
-ghost use Rattle.shelf.specs.Trials.{Loses, TrialFlushes, TrialMade, TrialReads, TrialRestarts, TrialWrites, controlled, means, with_choice, with_fuse};
+ghost use Rattle.shelf.specs.Runs.{BlankOf, FitsRun};
+ghost use Rattle.shelf.specs.Trials.{Loses, TrialFlushes, TrialMade, TrialReads, TrialRestarts, TrialWrites, controlled, fresh, means, with_choice, with_fuse};
 ghost use Rattle.std.proofs.Common.{rules, arith};
 
 use crate::controls::Controls;
 pub use crate::controls::NEVER;
-use crate::extent::Extent;
 use crate::image::Image;
 use crate::images::Images;
 use crate::{Answer, Failure, Shelf};
 use answer::Refusal;
-use sector::{SECTOR, Sector, zeros};
+use sector::Sector;
+use std::alloc::{AllocError, Global};
 use std::marker::Model;
+
+// When the power goes, in operations from now, and which of the sectors that are not settled survive then, by their places modulo 32.
+#[derive(Clone, Copy, PartialEq, Eq, Debug)]
+pub struct Cut {
+    pub fuse: u32,
+    pub choice: u32,
+}
 
 // The settled image and the current one, and what is to happen to them.
 #[derive(Drop)]
@@ -37,8 +44,7 @@ impl TrialShelf {
     pub fn fits(members: u64, sectors: u64, bytes: usize) -> Result<(), Refusal>
         ensures { FitsRun members sectors 2 bytes result }
     {
-        Extent::of(members, sectors, 2, bytes)?;
-        Ok(())
+        Images::<2>::fits(members, sectors, bytes)
     }
 
     // A shelf over a run of bytes, both images in it; where they do not fit, one of 2 members without sectors.
@@ -47,14 +53,19 @@ impl TrialShelf {
     {
         TrialShelf {
             images: Images::over(members, sectors, bytes),
-            controls: Controls {
-                on: true,
-                fuse: NEVER,
-                choice: 0,
-                present: [true; 16],
-                losing: [false; 16],
-            },
+            controls: Controls::NEW,
         }
+    }
+
+    // A shelf of zeros; where the limits are not kept, one of 2 members without sectors.
+    pub fn blank(heap: Global, members: u64, sectors: u64) -> Result<TrialShelf, AllocError>
+        ensures run { IfOk result (λ s. BlankOf members sectors 2 s.members s.sectors s.run) }
+        ensures controls { IfOk result (λ s. s.controls ≡ fresh) }
+    {
+        Ok(TrialShelf {
+            images: Images::blank(heap, members, sectors)?,
+            controls: Controls::NEW,
+        })
     }
 
     // The run of bytes, both images, as the shelf left it.
@@ -67,6 +78,15 @@ impl TrialShelf {
             controls: _,
         } = self;
         images.into_bytes()
+    }
+
+    // Sets when the power goes, and what the restart after it brings out.
+    pub fn set_cut(&mut self, cut: Cut)
+        ensures state { self.new ≡ controlled self.old (with_choice (with_fuse self.old.controls cut.fuse) cut.choice) }
+        ensures meaning { means self.new ≡ means self.old }
+    {
+        self.set_fuse(cut.fuse);
+        self.set_choice(cut.choice);
     }
 
     // Lets the power go after so many operations more.
@@ -143,7 +163,7 @@ impl Shelf for TrialShelf {
     {
         let at = self.images.cell(member, sector, buffer.len())?;
         self.controls.strike(member)?;
-        self.images.load(self.images.extent.image() + at, buffer);
+        buffer.copy_from_slice(self.images.sector_at(self.images.extent.image() + at));
         Ok(())
     }
 
@@ -157,7 +177,7 @@ impl Shelf for TrialShelf {
         let answer = self.controls.strike(member);
         if was_on && self.controls.present[member as usize] {
             let image = self.images.extent.image();
-            self.images.store(image + at, buffer);
+            self.images.store(image + at, buffer.try_into().unwrap());
         }
         answer
     }
@@ -187,13 +207,7 @@ impl Shelf for TrialShelf {
 
 impl Image for TrialShelf {
     fn current(&self, member: u64, sector: u64) -> Option<Sector> {
-        let Ok(cell) = self.images.cell(member, sector, SECTOR) else {
-            return None;
-        };
-        let mut content = zeros();
-        self.images
-            .load(self.images.extent.image() + cell, &mut content);
-        Some(content)
+        self.images.current(member, sector)
     }
 }
 

@@ -4,5 +4,5 @@ use Rattle.shelf.proofs.run.choose.Goals as goal
 
 pub loop-at-preserved : goal.loop-at-preserved
 loop-at-preserved c =
-    choose_more c.args.choice c.args.image c.args.column.start c.loop-at.at c.args.run.now c.loop-at.run c.choose_one.new.run
+    choose_more c.args.choice c.args.column.image c.args.column.start c.loop-at.at c.args.run.now c.loop-at.run c.choose_one.new.run
     (omega arith) (omega arith) (omega arith) c.loop-at.invariant c.choose_one.ensures
