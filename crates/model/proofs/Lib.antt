@@ -1,2 +1,4 @@
 pub mod Disks
+pub mod Firsts
 pub mod Looking
+pub mod Misplaced

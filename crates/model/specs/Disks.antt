@@ -30,6 +30,13 @@ shown d = disk_of (vec_items d.sectors) d.phase d.settled d.kept d.hand
 abbrev pub padded : Disk → ℕ → List ℕ
 padded d i = cond (nat_lt i d.size) (d.content i) (replicate 512 0)
 
+abbrev pub with_content : Disk → (ℕ → List ℕ) → Disk
+with_content d f = record { size = d.size; content = f; phase = d.phase; settled = d.settled; kept = d.kept; hand = d.hand }
+
+-- the disk with zeros from its size on
+abbrev pub filled : Disk → Disk
+filled d = with_content d (padded d)
+
 -- two disks that show the same
 pub record SameDisk (d e : Disk) : Type 0 where
   pub size : e.size ≡ d.size
@@ -42,9 +49,6 @@ pub record SameDisk (d e : Disk) : Type 0 where
 -- a volume that was just created
 abbrev pub created : ℕ → Disk
 created size = record { size = size; content = λ i. replicate 512 0; phase = Before; settled = 0; kept = 0; hand = None }
-
-abbrev pub with_content : Disk → (ℕ → List ℕ) → Disk
-with_content d f = record { size = d.size; content = f; phase = d.phase; settled = d.settled; kept = d.kept; hand = d.hand }
 
 abbrev pub with_walk : Disk → Phase → (p q : ℕ) → Option ℕ → Disk
 with_walk d phase p q hand = record { size = d.size; content = d.content; phase = phase; settled = p; kept = q; hand = hand }

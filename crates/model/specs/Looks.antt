@@ -1,10 +1,10 @@
 -- Looks at a shelf's sectors.
-use Rattle.std.specs.Prelude.{◌≡◌, ℕ, true, false, List, [], Some, None, Option}
+use Rattle.std.specs.Prelude.{◌≡◌, ℕ, ◌+◌, ◌<◌, true, false, List, [], Some, None, Option}
 use Rattle.shelf.specs.Meaning.{Meaning}
 use Rattle.model.specs.Contents.{held}
 use Rattle.model.specs.Disks.{Disk}
 use Rattle.model.specs.Strays.{fresh, is_used}
-use Rattle.layout.specs.Geometry.{Geometry}
+use Rattle.layout.specs.Geometry.{Geometry, capacity}
 use Rattle.layout.specs.declared.place.Owner.{Owner}
 
 abbrev pub Seen : Meaning → ℕ → ℕ → Option (List ℕ) → Type 0
@@ -15,3 +15,11 @@ Seen a k s (Some x) = held a k s ≡ x
 abbrev pub FreshAt : Geometry → Disk → Owner → Option (List ℕ) → Type 0
 FreshAt g d o None = is_used o ≡ false
 FreshAt g d o (Some x) = (is_used o ≡ true) × (x ≡ fresh g d o)
+
+-- where on the shelf a place of the body lies, after the head, the log and the backup slots
+abbrev pub on_shelf : ℕ → ℕ × ℕ → ℕ × ℕ
+on_shelf backup p = (p.0, 3 + backup + p.1)
+
+-- the sector is in no group
+abbrev pub NoGroup : Geometry → ℕ → Type 0
+NoGroup g i = (0 < g.groups) × (i < capacity g) → ⊥

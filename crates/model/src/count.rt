@@ -1,10 +1,12 @@
 // The counts by which a volume is held to the flat disk.
-ghost use Rattle.std.specs.Prelude.{◌≡◌, ◌+◌, ◌<◌, ◌≤◌, if◌then◌else◌, vec_len, MatchOption};
+ghost use Rattle.std.specs.Prelude.{◌≡◌, ◌≤◌, MatchOption};
+ghost use Rattle.std.specs.Int.NonZero.{non_zero_u32_get};
 ghost use Rattle.model.specs.Contents.{home_differs_lem, home_in};
-ghost use Rattle.model.specs.Disks.{shown};
+ghost use Rattle.model.specs.Disks.{filled, shown};
 ghost use Rattle.model.specs.Strays.{is_stray, same_phase, same_told, stray_below, strays as strayCount};
 
 use crate::disk::Disk;
+use crate::first::count_below;
 use crate::look::{self, View};
 use layout::Layout;
 use overlap::walk::{Home, Walk};
@@ -12,6 +14,7 @@ use sector::Sector;
 use shelf::Shelf;
 use shelf::image::Image;
 use stage::phase::Phase;
+use std::num::NonZeroU32;
 
 // What a volume tells of itself.
 #[derive(Clone, Copy)]
@@ -24,12 +27,12 @@ pub struct Told {
 }
 
 // A shelf with the two layouts of a volume, after so many backup slots.
-#[derive(Clone, Copy)]
+#[derive(Drop)]
 struct Laid<'a, S, L> {
     shelf: &'a S,
     source: &'a L,
     target: &'a L,
-    backup: u32,
+    backup: NonZeroU32,
 }
 
 impl<'a, S: Image, L: Layout> Laid<'a, S, L> {
@@ -37,12 +40,12 @@ impl<'a, S: Image, L: Layout> Laid<'a, S, L> {
     fn view(&self, layout: &'a L) -> View<'a, S, L>
         ensures shelf { result.shelf.now ≡ self.now.shelf.now }
         ensures layout { result.layout.now ≡ layout.now }
-        ensures backup { result.backup ≡ self.now.backup }
+        ensures backup { result.backup ≡ non_zero_u32_get self.now.backup }
     {
         View {
             shelf: self.shelf,
             layout,
-            backup: self.backup,
+            backup: self.backup.get(),
         }
     }
 
@@ -54,23 +57,15 @@ impl<'a, S: Image, L: Layout> Laid<'a, S, L> {
             Phase::Before | Phase::Shut(_) => Home::Source,
             Phase::After => Home::Target,
             Phase::Moving => {
-                let walk = Walk {
-                    source_len: self.source.row_len(),
-                    target_len: self.target.row_len(),
-                    settled: disk.settled(),
-                    kept: disk.kept(),
-                    size: disk.size(),
-                    backup: 1,
-                };
-                walk.home(sector)
+                let (settled, kept) = (disk.settled(), disk.kept());
+                Walk::of(self.source, self.target, settled, kept, disk.size(), 1).home(sector)
             }
         }
     }
 
     // Whether the shelf shows another content than this at a sector's home.
     fn home_differs(&self, home: Home, content: &Sector, sector: u64) -> bool
-        requires { 1 ≤ self.now.backup }
-        ensures { result ≡ home_differs_lem home (L.Layout.geometry self.now.source.now) (L.Layout.geometry self.now.target.now) (S.Shelf.meaning self.now.shelf.now) self.now.backup content.now sector }
+        ensures { result ≡ home_differs_lem home (L.Layout.geometry self.now.source.now) (L.Layout.geometry self.now.target.now) (S.Shelf.meaning self.now.shelf.now) (non_zero_u32_get self.now.backup) content.now sector }
     {
         match home {
             Home::Source => self.view(self.source).differs(content, sector),
@@ -79,29 +74,20 @@ impl<'a, S: Image, L: Layout> Laid<'a, S, L> {
         }
     }
 
-    // 1 for a sector that is not shown as the disk has it.
-    fn stray(&self, disk: &Disk, sector: u64) -> u64
-        requires backed { 1 ≤ self.now.backup }
-        requires inside { sector < vec_len disk.now.sectors }
-        ensures count { result ≡ (if is_stray (L.Layout.geometry self.now.source.now) (L.Layout.geometry self.now.target.now) (S.Shelf.meaning self.now.shelf.now) self.now.backup (shown disk.now) sector then 1 else 0) }
-        ensures one { result ≤ 1 }
+    // Whether a sector is not shown as the disk has it; from its size on the disk has zeros.
+    fn is_stray(&self, disk: &Disk, sector: u64) -> bool
+        ensures { result ≡ is_stray (L.Layout.geometry self.now.source.now) (L.Layout.geometry self.now.target.now) (S.Shelf.meaning self.now.shelf.now) (non_zero_u32_get self.now.backup) (filled (shown disk.now)) sector }
     {
-        let content = disk.sector(sector);
         let home = self.home(disk, sector);
-        u64::from(self.home_differs(home, &content, sector))
+        self.home_differs(home, &disk.sector(sector), sector)
     }
 
     // How many sectors are not shown as the disk has them.
     fn stray_sectors(&self, disk: &Disk) -> u64
-        requires { 1 ≤ self.now.backup }
-        ensures value { result ≡ stray_below (L.Layout.geometry self.now.source.now) (L.Layout.geometry self.now.target.now) (S.Shelf.meaning self.now.shelf.now) self.now.backup (shown disk.now) (vec_len disk.now.sectors) }
-        ensures bound { result ≤ vec_len disk.now.sectors }
+        ensures value { result ≡ stray_below (L.Layout.geometry self.now.source.now) (L.Layout.geometry self.now.target.now) (S.Shelf.meaning self.now.shelf.now) (non_zero_u32_get self.now.backup) (shown disk.now) (shown disk.now).size }
+        ensures bound { result ≤ (shown disk.now).size }
     {
-        let mut strays: u64 = 0;
-        for sector in 0..disk.size() {
-            strays += self.stray(disk, sector);
-        }
-        strays
+        count_below(disk.size(), |sector| self.is_stray(disk, sector))
     }
 }
 
@@ -138,14 +124,11 @@ pub fn strays<S: Image, L: Layout>(
 ) -> Option<u64>
     ensures { MatchOption result (backup ≡ 0) (λ n. n ≡ strayCount (L.Layout.geometry source.now) (L.Layout.geometry target.now) (S.Shelf.meaning shelf.now) backup told.now (shown disk.now)) }
 {
-    if backup == 0 {
-        return None;
-    }
     let laid = Laid {
         shelf,
         source,
         target,
-        backup,
+        backup: NonZeroU32::new(backup)?,
     };
     let sectors = laid.stray_sectors(disk);
     if tells_same(told, disk) {

@@ -1,6 +1,6 @@
 // The flat disk: what a volume is to show, kept apart from any shelf.
-ghost use Rattle.std.specs.Prelude.{◌≡◌, ◌+◌, ◌^◌, ◌<◌, replicate, IfOk, vec_len};
-ghost use Rattle.model.specs.Disks.{SameDisk, created, shown, granted, opened, padded, refused, released, with_walk, written};
+ghost use Rattle.std.specs.Prelude.{◌≡◌, ◌+◌, ◌^◌, ◌<◌, replicate, IfOk};
+ghost use Rattle.model.specs.Disks.{SameDisk, created, shown, granted, opened, padded, refused, released, written};
 
 use crate::request::Request;
 use sector::{Sector, zeros};
@@ -33,7 +33,7 @@ impl Disk {
     }
 
     pub fn size(&self) -> u64
-        ensures { result ≡ vec_len self.now.sectors }
+        ensures { result ≡ (shown self.now).size }
     {
         self.sectors.len() as u64
     }
@@ -50,28 +50,28 @@ impl Disk {
     }
 
     pub fn phase(&self) -> Phase
-        ensures { result ≡ self.now.phase }
+        ensures { result ≡ (shown self.now).phase }
     {
         self.phase
     }
 
     // The target rows that are settled.
     pub fn settled(&self) -> u64
-        ensures { result ≡ self.now.settled }
+        ensures { result ≡ (shown self.now).settled }
     {
         self.settled
     }
 
     // The source rows that are kept.
     pub fn kept(&self) -> u64
-        ensures { result ≡ self.now.kept }
+        ensures { result ≡ (shown self.now).kept }
     {
         self.kept
     }
 
     // The row in hand.
     pub fn hand(&self) -> Option<u64>
-        ensures { result ≡ self.now.hand }
+        ensures { result ≡ (shown self.now).hand }
     {
         self.hand
     }
@@ -90,30 +90,26 @@ impl Disk {
         })
     }
 
-    // What a granted call makes of the disk.
+    // What a granted call makes of the disk. A match: the requests are the data that a run is made of.
     pub fn grant(&mut self, request: &Request)
-        ensures { self.old.settled + 1 < 2 ^ 64 → self.old.kept + 1 < 2 ^ 64 → SameDisk (granted request.now (shown self.old)) (shown self.new) }
+        ensures { (shown self.old).settled + 1 < 2 ^ 64 → (shown self.old).kept + 1 < 2 ^ 64 → SameDisk (granted request.now (shown self.old)) (shown self.new) }
     {
         match *request {
             Request::Read(_) => {}
             Request::Write(sector, content) => self.put(sector, content),
-            Request::Begin => self.walk(Phase::Moving, 0, 0, self.hand),
-            Request::Keep => self.walk(
-                self.phase,
-                self.settled,
-                self.kept.saturating_add(1),
-                self.hand,
-            ),
-            Request::Copy => self.walk(self.phase, self.settled, self.kept, Some(self.settled)),
-            Request::Settle(_) => self.walk(
-                self.phase,
-                self.settled.saturating_add(1),
-                self.kept,
-                None,
-            ),
-            Request::HandBack(_) => self.walk(self.phase, self.settled, self.kept, None),
-            Request::Finish => self.walk(Phase::After, 0, 0, self.hand),
-            Request::Open => self.walk(reopened(self.phase), self.settled, self.kept, None),
+            Request::Begin => (self.phase, self.settled, self.kept) = (Phase::Moving, 0, 0),
+            Request::Keep => self.kept = self.kept.saturating_add(1),
+            Request::Copy => self.hand = Some(self.settled),
+            Request::Settle(_) => {
+                self.settled = self.settled.saturating_add(1);
+                self.hand = None;
+            }
+            Request::HandBack(_) => self.hand = None,
+            Request::Finish => (self.phase, self.settled, self.kept) = (Phase::After, 0, 0),
+            Request::Open => {
+                self.phase = reopened(self.phase);
+                self.hand = None;
+            }
         }
     }
 
@@ -130,11 +126,7 @@ impl Disk {
     fn release(&mut self, row: u64)
         ensures { SameDisk (released row (shown self.old)) (shown self.new) }
     {
-        if let Some(held) = self.hand {
-            if held == row {
-                self.hand = None;
-            }
-        }
+        self.hand = self.hand.filter(|held| *held != row);
     }
 
     fn put(&mut self, index: u64, content: Sector)
@@ -143,15 +135,6 @@ impl Disk {
         if index < self.size() {
             self.sectors[index as usize] = content;
         }
-    }
-
-    fn walk(&mut self, phase: Phase, settled: u64, kept: u64, hand: Option<u64>)
-        ensures { SameDisk (with_walk (shown self.old) phase settled kept hand) (shown self.new) }
-    {
-        self.phase = phase;
-        self.settled = settled;
-        self.kept = kept;
-        self.hand = hand;
     }
 }
 

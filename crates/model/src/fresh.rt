@@ -1,18 +1,29 @@
 // Places that differ from a fresh placement.
-ghost use Rattle.std.specs.Prelude.{◌≡◌, ◌+◌, ◌*◌, ◌<◌, ◌≤◌, false, if◌then◌else◌, MatchOption};
-ghost use Rattle.sector.specs.Folds.{folded};
+ghost use Rattle.std.specs.Prelude.{◌≡◌, ◌<◌, ◌≤◌, false};
 ghost use Rattle.model.specs.Contents.{count, gathered};
 ghost use Rattle.model.specs.Disks.{shown, padded};
 ghost use Rattle.model.specs.Looks.{FreshAt};
-ghost use Rattle.model.specs.Strays.{is_misplaced, misplaced as misplacedCount, misplaced_below};
+ghost use Rattle.model.specs.Strays.{is_misplaced, misplaced as misplacedCount};
 
 use crate::disk::Disk;
-use crate::look::{self, View};
+use crate::first::count_below;
+use crate::look::View;
 use layout::Layout;
 use layout::place::{Owner, Place};
 use sector::{Sector, fold, zeros};
 use shelf::Shelf;
 use shelf::image::Image;
+
+// What a fresh placement has at a place; None where nothing is placed.
+fn fresh_at<S: Image, L: Layout>(view: &View<S, L>, disk: &Disk, place: Place) -> Option<Sector>
+    ensures { FreshAt (L.Layout.geometry view.now.layout.now) (shown disk.now) ((L.Layout.geometry view.now.layout.now).owner place) result }
+{
+    match view.layout.owner(place) {
+        Owner::Datum { sector, .. } => Some(disk.sector(sector)),
+        Owner::Parity { group } => Some(fresh_parity(view.layout, disk, group)),
+        Owner::Nobody => None,
+    }
+}
 
 // The parity of a group, from the disk.
 fn fresh_parity<L: Layout>(layout: &L, disk: &Disk, group: u64) -> Sector
@@ -26,34 +37,14 @@ fn fresh_parity<L: Layout>(layout: &L, disk: &Disk, group: u64) -> Sector
     parity
 }
 
-// What a fresh placement has at a place; None where nothing is placed.
-fn fresh_at<L: Layout>(layout: &L, disk: &Disk, place: Place) -> Option<Sector>
-    ensures { FreshAt (L.Layout.geometry layout.now) (shown disk.now) ((L.Layout.geometry layout.now).owner place) result }
+// Whether a used place is there and differs.
+fn is_misplaced<S: Image, L: Layout>(view: &View<S, L>, disk: &Disk, place: Place) -> bool
+    ensures { result ≡ is_misplaced (L.Layout.geometry view.now.layout.now) (S.Shelf.meaning view.now.shelf.now) view.now.backup (shown disk.now) place.0 place.1 }
 {
-    match layout.owner(place) {
-        Owner::Datum { sector, .. } => Some(disk.sector(sector)),
-        Owner::Parity { group } => Some(fresh_parity(layout, disk, group)),
-        Owner::Nobody => None,
-    }
-}
-
-// 1 for a used place that is there and differs.
-fn misplaced_at<S: Image, L: Layout>(
-    view: &View<S, L>,
-    disk: &Disk,
-    member: u64,
-    offset: u64,
-) -> u64
-    requires { offset ≤ 16777216 }
-    ensures count { result ≡ (if is_misplaced (L.Layout.geometry view.now.layout.now) (S.Shelf.meaning view.now.shelf.now) view.now.backup (shown disk.now) member offset then 1 else 0) }
-    ensures one { result ≤ 1 }
-{
-    let place = (member, offset);
-    match fresh_at(view.layout, disk, place) {
-        None => 0,
-        Some(content) => {
-            u64::from(look::place_differs(view.shelf, view.backup, place, &content))
-        }
+    // A match: a closure would ask its place to be shallow again, which is known from the answer.
+    match fresh_at(view, disk, place) {
+        Some(content) => view.place_differs(place, &content),
+        None => false,
     }
 }
 
@@ -62,11 +53,9 @@ fn misplaced_on<S: Image, L: Layout>(view: &View<S, L>, disk: &Disk, member: u64
     ensures count { result ≡ count (is_misplaced (L.Layout.geometry view.now.layout.now) (S.Shelf.meaning view.now.shelf.now) view.now.backup (shown disk.now) member) (L.Layout.geometry view.now.layout.now).depth }
     ensures bound { result ≤ 16777216 }
 {
-    let mut places: u64 = 0;
-    for offset in 0..view.layout.depth() {
-        places += misplaced_at(view, disk, member, offset);
-    }
-    places
+    count_below(view.layout.depth(), |offset| {
+        is_misplaced(view, disk, (member, offset))
+    })
 }
 
 // How many used places that are there differ from a fresh placement of the disk.
@@ -78,9 +67,7 @@ pub fn misplaced<S: Image, L: Layout>(shelf: &S, layout: &L, backup: u32, disk: 
         layout,
         backup,
     };
-    let mut places: u64 = 0;
-    for member in 0..layout.members() {
-        places += misplaced_on(&view, disk, member);
-    }
-    places
+    (0..layout.members())
+        .map(|member| misplaced_on(&view, disk, member))
+        .sum()
 }

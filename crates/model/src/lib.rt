@@ -6,6 +6,7 @@ ghost use Rattle.model.specs.Worked.{CountExamples, DiskExamples, HomeExamples, 
 pub mod call;
 pub mod count;
 pub mod disk;
+mod first;
 pub mod fresh;
 mod look;
 pub mod request;

@@ -1,5 +1,5 @@
 // The arrays that a volume is laid on, and whether enough members are present for them.
-ghost use Rattle.std.specs.Prelude.{◌≡◌, ◌≤◌, if◌then◌else◌};
+ghost use Rattle.std.specs.Prelude.{◌≡◌};
 ghost use Rattle.stage.specs.Crew.{absent_of, borne, crew_of, enough};
 
 use crate::phase::Phase;
@@ -16,23 +16,11 @@ pub struct Array<L> {
     pub head: Head,
 }
 
-// 1 for a member that is absent.
-fn missing<S: Shelf>(shelf: &S, member: u64) -> u64
-    ensures count { result ≡ (if (S.meaning shelf.now).present member then 0 else 1) }
-    ensures one { result ≤ 1 }
-{
-    u64::from(!shelf.is_present(member))
-}
-
 // How many of the first members are absent.
 fn absent_below<S: Shelf>(shelf: &S, end: u64) -> u64
     ensures { result ≡ absent_of (S.meaning shelf.now).present end }
 {
-    let mut absent: u64 = 0;
-    for member in 0..end {
-        absent += missing(shelf, member);
-    }
-    absent
+    (0..end).filter(|member| !shelf.is_present(*member)).count() as u64
 }
 
 // Whether a layout has every sector with the members that are absent. Members that the shelf has not are not absent.

@@ -24,9 +24,10 @@ impl<L: Layout> Array<L> {
         ensures target { self.new.target ≡ self.old.target }
         ensures phase { self.new.phase ≡ self.old.phase }
     {
-        let Some(head) = self.head.next(source, progress, armed) else {
-            return Err(Refusal::NumbersSpent.into());
-        };
+        let head = self
+            .head
+            .next(source, progress, armed)
+            .ok_or(Refusal::NumbersSpent)?;
         self.spread(shelf, &head)?;
         self.head = head;
         Ok(())

@@ -1,5 +1,4 @@
 // Stages over every present member.
-ghost use Rattle.std.specs.Prelude.{◌≡◌};
 ghost use Rattle.answer.specs.declared.Operation.TheVariants.{Read, Write, Flush};
 ghost use Rattle.head.specs.Heads.{head_bytes};
 ghost use Rattle.stage.specs.Crew.{crew_of};
@@ -16,6 +15,7 @@ use shelf::Shelf;
 
 impl<L: Layout> Array<L> {
     // Writes one content to a sector of every present member.
+    // A loop of its own beside the flush's: a closure would have to say the plan and the fault of its operation again, in a clause longer than the loop.
     pub fn write_all<S: Shelf>(
         &self,
         shelf: &mut S,

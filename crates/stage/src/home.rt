@@ -12,14 +12,10 @@ impl<L: Layout> Array<L> {
     pub fn walk(&self) -> Walk
         ensures { WalkOf (L.geometry self.now.source) (L.geometry self.now.target) self.now.head result }
     {
-        Walk {
-            source_len: self.source.row_len(),
-            target_len: self.target.row_len(),
-            settled: self.head.progress.settled(),
-            kept: self.head.progress.kept(),
-            size: self.head.size,
-            backup: u64::from(self.head.backup),
-        }
+        let head = &self.head;
+        let (settled, kept) = (head.progress.settled(), head.progress.kept());
+        let backup = u64::from(head.backup);
+        Walk::of(&self.source, &self.target, settled, kept, head.size, backup)
     }
 
     // Where a sector lives.

@@ -9,37 +9,41 @@ use shelf::Shelf;
 
 // A write of a sector: what it holds from then on, and the parity of its group, or zeros where its home has none.
 #[derive(Clone, Copy)]
-pub struct Entry {
+pub struct Entry<'a> {
     pub sector: u64,
-    pub datum: Sector,
-    pub parity: Sector,
+    pub datum: &'a Sector,
+    pub parity: &'a Sector,
 }
 
 impl<L: Layout> Array<L> {
     // Puts a write into the log on every present member. Nothing rests on it until a head is armed for it.
-    pub fn log<S: Shelf>(&self, shelf: &mut S, entry: &Entry) -> Result<(), Refused> {
-        self.write_all(shelf, LOGGED_DATUM_AT, &entry.datum)?;
-        self.write_all(shelf, LOGGED_PARITY_AT, &entry.parity)?;
+    pub fn log<S: Shelf>(&self, shelf: &mut S, entry: Entry) -> Result<(), Refused> {
+        self.write_all(shelf, LOGGED_DATUM_AT, entry.datum)?;
+        self.write_all(shelf, LOGGED_PARITY_AT, entry.parity)?;
         self.flush_all(shelf)
     }
 
     // Carries a logged write out: every place of the sector's home, and settled.
-    pub fn apply<S: Shelf>(&self, shelf: &mut S, entry: &Entry) -> Result<(), Refused> {
+    pub fn apply<S: Shelf>(&self, shelf: &mut S, entry: Entry) -> Result<(), Refused> {
         match self.home_layout(entry.sector) {
             Some(layout) => self.write_places(shelf, layout, entry)?,
-            None => self.write_all(shelf, self.slot(entry.sector), &entry.datum)?,
+            None => self.write_all(shelf, self.slot(entry.sector), entry.datum)?,
         }
         self.flush_all(shelf)
     }
 
     // Carries out again the write that stands in the log.
     pub fn redo<S: Shelf>(&self, shelf: &mut S, sector: u64) -> Result<(), Refused> {
-        let entry = Entry {
-            sector,
-            datum: self.read_held(shelf, LOGGED_DATUM_AT)?,
-            parity: self.read_held(shelf, LOGGED_PARITY_AT)?,
-        };
-        self.apply(shelf, &entry)
+        let datum = self.read_held(shelf, LOGGED_DATUM_AT)?;
+        let parity = self.read_held(shelf, LOGGED_PARITY_AT)?;
+        self.apply(
+            shelf,
+            Entry {
+                sector,
+                datum: &datum,
+                parity: &parity,
+            },
+        )
     }
 
     // Writes all copies of a sector and the parity of its group.
@@ -47,11 +51,11 @@ impl<L: Layout> Array<L> {
         &self,
         shelf: &mut S,
         layout: &L,
-        entry: &Entry,
+        entry: Entry,
     ) -> Result<(), Refused> {
-        self.write_copies(shelf, layout, entry.sector, &entry.datum)?;
+        self.write_copies(shelf, layout, entry.sector, entry.datum)?;
         if let Some(group) = layout.group(entry.sector) {
-            self.write_place(shelf, layout.parity(group), &entry.parity)?;
+            self.write_place(shelf, layout.parity(group), entry.parity)?;
         }
         Ok(())
     }

@@ -1,5 +1,4 @@
 // One operation on one member, as a step of a stage. It ends the call where the power is gone or too few members are left.
-ghost use Rattle.std.specs.Prelude.{◌≡◌, None};
 ghost use Rattle.answer.specs.declared.Operation.TheVariants.{Read, Write, Flush};
 ghost use Rattle.stage.specs.Cells.{Others};
 ghost use Rattle.stage.specs.Crew.{crew_of};
@@ -40,7 +39,7 @@ impl<L: Layout> Array<L> {
     {
         if shelf.is_present(member) {
             let answer = operation::put(shelf, member, sector, content);
-            self.weigh(shelf, answer, fault_at(Operation::Write, member, sector))?;
+            self.weigh(shelf, answer, Fault::at(Operation::Write, member, sector))?;
         }
         Ok(())
     }
@@ -60,11 +59,8 @@ impl<L: Layout> Array<L> {
         }
         let mut content = zeros();
         let answer = operation::get(shelf, member, sector, &mut content);
-        if self.weigh(shelf, answer, fault_at(Operation::Read, member, sector))? {
-            Ok(Some(content))
-        } else {
-            Ok(None)
-        }
+        let here = self.weigh(shelf, answer, Fault::at(Operation::Read, member, sector))?;
+        Ok(here.then_some(content))
     }
 
     // Flushes a member, if it is present.
@@ -74,20 +70,8 @@ impl<L: Layout> Array<L> {
     {
         if shelf.is_present(member) {
             let answer = operation::flush(shelf, member);
-            self.weigh(shelf, answer, fault_at(Operation::Flush, member, 0))?;
+            self.weigh(shelf, answer, Fault::at(Operation::Flush, member, 0))?;
         }
         Ok(())
-    }
-}
-
-// An operation on a sector of a member, which is about no row yet.
-fn fault_at(operation: Operation, member: u64, sector: u64) -> Fault
-    ensures { result ≡ record { operation = operation; member = member; sector = sector; row = None } }
-{
-    Fault {
-        operation,
-        member,
-        sector,
-        row: None,
     }
 }

@@ -1,4 +1,4 @@
-// One operation on one member, told by its answer.
+// One operation on one member, told by its answer. Each hands one call on, and its clause says in the stages' own words what an operation does.
 ghost use Rattle.stage.specs.Cells.{GotAt, PutAt, SettledAt};
 
 use sector::Sector;

@@ -1,10 +1,9 @@
 // What is judged before the first operation of a call, in the order in which several refusals are told.
 ghost use Rattle.std.specs.Prelude.{◌≡◌, ◌≤◌, IfOk, if◌then◌else◌, Some, None, OnOk};
 ghost use Rattle.answer.specs.declared.Refusal.TheVariants.{NumbersSpent};
-ghost use Rattle.overlap.specs.Needs.{distance_of};
-ghost use Rattle.model.specs.Knowing.{volume_on};
 ghost use Rattle.model.specs.Opening.{head_fits, head_verdict, logged_fits, names_layouts_lem, names_target_lem, progress_borne, progress_fits, walk_fits};
 ghost use Rattle.model.specs.Verdicts.{Judged, access_verdict, admission, begin_verdict, copy_verdict, create_verdict, finish_verdict, fits as room, in_limits, keep_verdict, read_verdict, settle_verdict, spent, write_verdict};
+ghost use Rattle.volume.specs.Volumes.{distance_in, known, shelf_of, source_of, target_of};
 
 use crate::Volume;
 use answer::Refusal;
@@ -41,7 +40,7 @@ pub fn fits<S: Shelf, L: Layout>(shelf: &S, layout: &L, backup: u32, size: u64) 
 impl<S: Shelf, L: Layout> Volume<S, L> {
     // Power, members, and whether the call is one for the phase.
     fn admit(&self, call: Call) -> Result<(), Refusal>
-        ensures { Judged (admission call (volume_on L.geometry self.now.array self.now.hand) (S.meaning self.now.shelf)) result }
+        ensures { Judged (admission call (known L.geometry self.now) (S.meaning (shelf_of self.now))) result }
     {
         if let Phase::Shut(refusal) = self.array.phase {
             return Err(refusal);
@@ -56,6 +55,7 @@ impl<S: Shelf, L: Layout> Volume<S, L> {
         if matches!(call, Call::Begin) && !bears(&self.shelf, &self.array.target) {
             return Err(Refusal::MembersLost);
         }
+        // which calls a phase has is one table; a closure for each call would be no plainer
         match (self.array.phase, call) {
             (_, Call::Read | Call::Write) => Ok(()),
             (Phase::Before, Call::Begin) => Ok(()),
@@ -66,7 +66,7 @@ impl<S: Shelf, L: Layout> Volume<S, L> {
 
     // Whether so many checkpoints can still be numbered.
     fn numbered(&self, checkpoints: u64) -> Result<(), Refusal>
-        ensures { Judged (if spent (volume_on L.geometry self.now.array self.now.hand) checkpoints then Some NumbersSpent else None) result }
+        ensures { Judged (if spent (known L.geometry self.now) checkpoints then Some NumbersSpent else None) result }
     {
         if self.array.head.numbers_left() < checkpoints {
             return Err(Refusal::NumbersSpent);
@@ -75,7 +75,7 @@ impl<S: Shelf, L: Layout> Volume<S, L> {
     }
 
     pub(crate) fn judge_create(&self, backup: u32, size: u64) -> Result<(), Refusal>
-        ensures verdict { Judged (create_verdict (L.named self.now.array.source) (L.geometry self.now.array.source) (S.meaning self.now.shelf) backup size) result }
+        ensures verdict { Judged (create_verdict (L.named (source_of self.now)) (L.geometry (source_of self.now)) (S.meaning (shelf_of self.now)) backup size) result }
         ensures slots { OnOk result ((1 ≤ backup) × (backup ≤ 4096)) }
     {
         let source = &self.array.source;
@@ -97,7 +97,7 @@ impl<S: Shelf, L: Layout> Volume<S, L> {
 
     // A read or a write of a sector, by a buffer of some length.
     fn judge_access(&self, sector: u64, length: usize) -> Result<(), Refusal>
-        ensures verdict { Judged (access_verdict (volume_on L.geometry self.now.array self.now.hand) sector length) result }
+        ensures verdict { Judged (access_verdict (known L.geometry self.now) sector length) result }
         ensures long { OnOk result (length ≡ 512) }
     {
         if length != SECTOR {
@@ -110,7 +110,7 @@ impl<S: Shelf, L: Layout> Volume<S, L> {
     }
 
     pub(crate) fn judge_read(&self, sector: u64, length: usize) -> Result<(), Refusal>
-        ensures verdict { Judged (read_verdict (volume_on L.geometry self.now.array self.now.hand) (S.meaning self.now.shelf) sector length) result }
+        ensures verdict { Judged (read_verdict (known L.geometry self.now) (S.meaning (shelf_of self.now)) sector length) result }
         ensures long { OnOk result (length ≡ 512) }
     {
         self.admit(Call::Read)?;
@@ -118,7 +118,7 @@ impl<S: Shelf, L: Layout> Volume<S, L> {
     }
 
     pub(crate) fn judge_write(&self, sector: u64, length: usize) -> Result<(), Refusal>
-        ensures { Judged (write_verdict (volume_on L.geometry self.now.array self.now.hand) (S.meaning self.now.shelf) sector length) result }
+        ensures { Judged (write_verdict (known L.geometry self.now) (S.meaning (shelf_of self.now)) sector length) result }
     {
         self.admit(Call::Write)?;
         self.judge_access(sector, length)?;
@@ -130,8 +130,8 @@ impl<S: Shelf, L: Layout> Volume<S, L> {
 
     // Answers the overlap distance where begin may go on.
     pub(crate) fn judge_begin(&self) -> Result<u64, Refusal>
-        ensures verdict { Judged (begin_verdict (L.named self.now.array.target) (volume_on L.geometry self.now.array self.now.hand) (S.meaning self.now.shelf)) result }
-        ensures distance { IfOk result (λ d. d ≡ distance_of (L.geometry self.now.array.source) (L.geometry self.now.array.target) self.now.array.head.size) }
+        ensures verdict { Judged (begin_verdict (L.named (target_of self.now)) (known L.geometry self.now) (S.meaning (shelf_of self.now))) result }
+        ensures distance { IfOk result (λ d. d ≡ distance_in (known L.geometry self.now)) }
     {
         self.admit(Call::Begin)?;
         let head = &self.array.head;
@@ -148,7 +148,7 @@ impl<S: Shelf, L: Layout> Volume<S, L> {
     }
 
     pub(crate) fn judge_keep(&self) -> Result<(), Refusal>
-        ensures { Judged (keep_verdict (volume_on L.geometry self.now.array self.now.hand) (S.meaning self.now.shelf)) result }
+        ensures { Judged (keep_verdict (known L.geometry self.now) (S.meaning (shelf_of self.now))) result }
     {
         self.admit(Call::Keep)?;
         let walk = self.array.walk();
@@ -162,7 +162,7 @@ impl<S: Shelf, L: Layout> Volume<S, L> {
     }
 
     pub(crate) fn judge_copy(&self) -> Result<(), Refusal>
-        ensures { Judged (copy_verdict (volume_on L.geometry self.now.array self.now.hand) (S.meaning self.now.shelf)) result }
+        ensures { Judged (copy_verdict (known L.geometry self.now) (S.meaning (shelf_of self.now))) result }
     {
         self.admit(Call::Copy)?;
         if self.hand.is_some() {
@@ -185,7 +185,7 @@ impl<S: Shelf, L: Layout> Volume<S, L> {
     }
 
     pub(crate) fn judge_settle(&self, row: u64) -> Result<(), Refusal>
-        ensures { Judged (settle_verdict (volume_on L.geometry self.now.array self.now.hand) (S.meaning self.now.shelf) row) result }
+        ensures { Judged (settle_verdict (known L.geometry self.now) (S.meaning (shelf_of self.now)) row) result }
     {
         self.admit(Call::Settle)?;
         if self.hand != Some(row) {
@@ -195,7 +195,7 @@ impl<S: Shelf, L: Layout> Volume<S, L> {
     }
 
     pub(crate) fn judge_finish(&self) -> Result<(), Refusal>
-        ensures { Judged (finish_verdict (volume_on L.geometry self.now.array self.now.hand) (S.meaning self.now.shelf)) result }
+        ensures { Judged (finish_verdict (known L.geometry self.now) (S.meaning (shelf_of self.now))) result }
     {
         self.admit(Call::Finish)?;
         if self.array.walk().settled < self.array.target.rows() {
@@ -206,7 +206,7 @@ impl<S: Shelf, L: Layout> Volume<S, L> {
 
     // Whether a head that was found can be opened on this shelf with these layouts.
     pub(crate) fn judge_head(&self, head: &Head) -> Result<(), Refusal>
-        ensures { Judged (head_verdict head.now (S.meaning self.now.shelf) (L.named self.now.array.source) (L.named self.now.array.target) (L.geometry self.now.array.source) (L.geometry self.now.array.target)) result }
+        ensures { Judged (head_verdict head.now (S.meaning (shelf_of self.now)) (L.named (source_of self.now)) (L.named (target_of self.now)) (L.geometry (source_of self.now)) (L.geometry (target_of self.now))) result }
     {
         if !self.names_layouts(head) {
             return Err(Refusal::LabelsDiffer);
@@ -224,14 +224,14 @@ impl<S: Shelf, L: Layout> Volume<S, L> {
     }
 
     fn names_layouts(&self, head: &Head) -> bool
-        ensures { result ≡ names_layouts_lem head.now (L.named self.now.array.source) (L.named self.now.array.target) }
+        ensures { result ≡ names_layouts_lem head.now (L.named (source_of self.now)) (L.named (target_of self.now)) }
     {
         head.source == self.array.source.label() && self.names_target(head.progress)
     }
 
     // An idle head names the source only.
     fn names_target(&self, progress: Progress) -> bool
-        ensures { result ≡ names_target_lem progress (L.named self.now.array.target) }
+        ensures { result ≡ names_target_lem progress (L.named (target_of self.now)) }
     {
         match progress {
             Progress::Idle => true,
@@ -241,7 +241,7 @@ impl<S: Shelf, L: Layout> Volume<S, L> {
 
     // Whether the head's numbers can be those of a volume on these layouts.
     fn fits_layouts(&self, head: &Head) -> bool
-        ensures { result ≡ head_fits head.now (S.meaning self.now.shelf) (L.geometry self.now.array.source) (L.geometry self.now.array.target) }
+        ensures { result ≡ head_fits head.now (S.meaning (shelf_of self.now)) (L.geometry (source_of self.now)) (L.geometry (target_of self.now)) }
     {
         is_of_volume(head.armed, head.size)
             && (fits(&self.shelf, &self.array.source, head.backup, head.size)
@@ -249,7 +249,7 @@ impl<S: Shelf, L: Layout> Volume<S, L> {
     }
 
     fn fits_progress(&self, head: &Head) -> bool
-        ensures { result ≡ progress_fits head.now.progress (S.meaning self.now.shelf) (L.geometry self.now.array.source) (L.geometry self.now.array.target) head.now.size head.now.backup }
+        ensures { result ≡ progress_fits head.now.progress (S.meaning (shelf_of self.now)) (L.geometry (source_of self.now)) (L.geometry (target_of self.now)) head.now.size head.now.backup }
     {
         match head.progress {
             Progress::Idle => true,
@@ -261,23 +261,17 @@ impl<S: Shelf, L: Layout> Volume<S, L> {
     }
 
     fn fits_walk(&self, size: u64, backup: u32, settled: u64, kept: u64) -> bool
-        ensures { result ≡ walk_fits (L.geometry self.now.array.source) (L.geometry self.now.array.target) size backup settled kept }
+        ensures { result ≡ walk_fits (L.geometry (source_of self.now)) (L.geometry (target_of self.now)) size backup settled kept }
     {
-        let walk = Walk {
-            source_len: self.array.source.row_len(),
-            target_len: self.array.target.row_len(),
-            settled,
-            kept,
-            size,
-            backup: u64::from(backup),
-        };
-        settled <= self.array.target.rows()
-            && (walk.keeps_live() && walk.window(kept) <= walk.backup)
+        let source = &self.array.source;
+        let target = &self.array.target;
+        let walk = Walk::of(source, target, settled, kept, size, u64::from(backup));
+        settled <= target.rows() && (walk.keeps_live() && walk.window(kept) <= walk.backup)
     }
 
     // Whether the layouts that a head has in force bear the losses.
     fn bears_losses(&self, progress: Progress) -> bool
-        ensures { result ≡ progress_borne progress (S.meaning self.now.shelf) (L.geometry self.now.array.source) (L.geometry self.now.array.target) }
+        ensures { result ≡ progress_borne progress (S.meaning (shelf_of self.now)) (L.geometry (source_of self.now)) (L.geometry (target_of self.now)) }
     {
         match progress {
             Progress::Idle => bears(&self.shelf, &self.array.source),
@@ -292,8 +286,5 @@ impl<S: Shelf, L: Layout> Volume<S, L> {
 fn is_of_volume(armed: Option<u64>, size: u64) -> bool
     ensures { result ≡ logged_fits armed size }
 {
-    match armed {
-        None => true,
-        Some(sector) => sector < size,
-    }
+    armed.is_none_or(|sector| sector < size)
 }

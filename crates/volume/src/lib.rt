@@ -4,10 +4,8 @@
 
 ghost use Rattle.std.specs.Prelude.{◌≡◌, length, IfOk, OnErr, OnOk};
 ghost use Rattle.stage.specs.declared.phase.Phase.TheVariants.{Before};
-ghost use Rattle.head.specs.Heads.{kept_of, settled_of};
-ghost use Rattle.overlap.specs.Needs.{distance_of};
-ghost use Rattle.model.specs.Knowing.{volume_on};
 ghost use Rattle.model.specs.Verdicts.{HandedBack, InUse, RefusedBy, ShutBy, ShutsBy, begin_verdict, copy_verdict, create_verdict, emptied, finish_verdict, is_hand, keep_verdict, read_verdict, settle_verdict, write_verdict};
+ghost use Rattle.volume.specs.Volumes.{OnlyHand, distance_in, hand_of, known, phase_of, row_of, shelf_of, source_of, target_of};
 
 pub mod grant;
 mod judge;
@@ -18,7 +16,7 @@ use grant::Grant;
 use head::{HEAD_AT, Head, Progress, leading};
 use layout::Layout;
 use layout::label::Label;
-use sector::{copied, zeros};
+use sector::{Sector, zeros};
 use shelf::{Failure, Shelf};
 use stage::array::Array;
 use stage::logged::Entry;
@@ -48,8 +46,8 @@ impl<S: Shelf, L: Layout> Volume<S, L> {
         backup: u32,
         size: u64,
     ) -> (Volume<S, L>, Result<(), Refused>)
-        ensures verdict { RefusedBy (create_verdict (L.named source) (L.geometry source) (S.meaning shelf) backup size) (result.0.shelf ≡ shelf) result.1 }
-        ensures shut { ShutBy result.0.array.phase result.1 }
+        ensures verdict { RefusedBy (create_verdict (L.named source) (L.geometry source) (S.meaning shelf) backup size) (shelf_of result.0 ≡ shelf) result.1 }
+        ensures shut { ShutBy (phase_of result.0) result.1 }
     {
         let mut volume = Volume::unopened(shelf, source, target);
         let result = volume.lay_out(backup, size);
@@ -59,7 +57,7 @@ impl<S: Shelf, L: Layout> Volume<S, L> {
 
     // The volume that a shelf holds, once power is back. An idle head needs the source only.
     pub fn open(shelf: S, source: L, target: L) -> (Volume<S, L>, Result<(), Refused>)
-        ensures { ShutBy result.0.array.phase result.1 }
+        ensures { ShutBy (phase_of result.0) result.1 }
     {
         let mut volume = Volume::unopened(shelf, source, target);
         let result = volume.take_up();
@@ -71,7 +69,7 @@ impl<S: Shelf, L: Layout> Volume<S, L> {
     pub fn into_shelf(self) -> S
     where
         L: Drop,
-        ensures { result ≡ self.shelf }
+        ensures { result ≡ shelf_of self }
     {
         let Volume {
             shelf,
@@ -91,42 +89,42 @@ impl<S: Shelf, L: Layout> Volume<S, L> {
     }
 
     pub fn phase(&self) -> Phase
-        ensures { result ≡ self.now.array.phase }
+        ensures { result ≡ phase_of self.now }
     {
         self.array.phase
     }
 
     // How many sectors the volume has.
     pub fn size(&self) -> u64
-        ensures { result ≡ self.now.array.head.size }
+        ensures { result ≡ (known L.geometry self.now).size }
     {
         self.array.head.size
     }
 
-    // How many target rows are settled; 0 where the volume is not moving.
+    // How many target rows are settled; 0 where the volume is not moving, which the phase says, so that no Option is wanted here.
     pub fn settled(&self) -> u64
-        ensures { result ≡ settled_of self.now.array.head.progress }
+        ensures { result ≡ (known L.geometry self.now).settled }
     {
         self.array.head.progress.settled()
     }
 
     // How many source rows are kept; 0 where the volume is not moving.
     pub fn kept(&self) -> u64
-        ensures { result ≡ kept_of self.now.array.head.progress }
+        ensures { result ≡ (known L.geometry self.now).kept }
     {
         self.array.head.progress.kept()
     }
 
     // The row in hand.
     pub fn hand(&self) -> Option<u64>
-        ensures { result ≡ self.now.hand }
+        ensures { result ≡ hand_of self.now }
     {
         self.hand
     }
 
     // Reads a sector; where it is refused the buffer stays as it was.
     pub fn read(&mut self, sector: u64, buffer: &mut [u8]) -> Result<(), Refused>
-        ensures verdict { RefusedBy (read_verdict (volume_on L.geometry self.old.array self.old.hand) (S.meaning self.old.shelf) sector (length buffer.old)) (self.new ≡ self.old) result }
+        ensures verdict { RefusedBy (read_verdict (known L.geometry self.old) (S.meaning (shelf_of self.old)) sector (length buffer.old)) (self.new ≡ self.old) result }
         ensures buffer { OnErr result (buffer.new ≡ buffer.old) }
     {
         self.judge_read(sector, buffer.len())?;
@@ -137,26 +135,26 @@ impl<S: Shelf, L: Layout> Volume<S, L> {
 
     // Writes a sector: into the log, then, with the head armed for it, to every place of its home.
     pub fn write(&mut self, sector: u64, buffer: &[u8]) -> Result<(), Refused>
-        ensures { RefusedBy (write_verdict (volume_on L.geometry self.old.array self.old.hand) (S.meaning self.old.shelf) sector (length buffer.now)) (self.new ≡ self.old) result }
+        ensures { RefusedBy (write_verdict (known L.geometry self.old) (S.meaning (shelf_of self.old)) sector (length buffer.now)) (self.new ≡ self.old) result }
     {
         self.judge_write(sector, buffer.len())?;
-        let datum = copied(buffer).ok_or(Refusal::BufferLength)?;
-        let parity = self.array.parity_after(&mut self.shelf, sector, &datum)?;
+        let datum: &Sector = buffer.try_into().map_err(|_| Refusal::BufferLength)?;
+        let parity = &self.array.parity_after(&mut self.shelf, sector, datum)?;
         let entry = Entry {
             sector,
             datum,
             parity,
         };
-        self.array.log(&mut self.shelf, &entry)?;
+        self.array.log(&mut self.shelf, entry)?;
         self.checkpoint_armed(Some(sector))?;
-        self.array.apply(&mut self.shelf, &entry)?;
+        self.array.apply(&mut self.shelf, entry)?;
         self.checkpoint_armed(None)
     }
 
     // Starts the move to the target, and answers the overlap distance.
     pub fn begin(&mut self) -> Result<u64, Refused>
-        ensures verdict { RefusedBy (begin_verdict (L.named self.old.array.target) (volume_on L.geometry self.old.array self.old.hand) (S.meaning self.old.shelf)) (self.new ≡ self.old) result }
-        ensures distance { IfOk result (λ d. d ≡ distance_of (L.geometry self.old.array.source) (L.geometry self.old.array.target) self.old.array.head.size) }
+        ensures verdict { RefusedBy (begin_verdict (L.named (target_of self.old)) (known L.geometry self.old) (S.meaning (shelf_of self.old))) (self.new ≡ self.old) result }
+        ensures distance { IfOk result (λ d. d ≡ distance_in (known L.geometry self.old)) }
     {
         let distance = self.judge_begin()?;
         self.checkpoint_progress(0, 0)?;
@@ -166,7 +164,7 @@ impl<S: Shelf, L: Layout> Volume<S, L> {
 
     // Saves the next source row into the backup slots.
     pub fn keep(&mut self) -> Result<(), Refused>
-        ensures { RefusedBy (keep_verdict (volume_on L.geometry self.old.array self.old.hand) (S.meaning self.old.shelf)) (self.new ≡ self.old) result }
+        ensures { RefusedBy (keep_verdict (known L.geometry self.old) (S.meaning (shelf_of self.old))) (self.new ≡ self.old) result }
     {
         self.judge_keep()?;
         let row = self.kept();
@@ -175,7 +173,7 @@ impl<S: Shelf, L: Layout> Volume<S, L> {
 
     // Writes the next target row, and grants to settle it.
     pub fn copy(&mut self) -> Result<Grant, Refused>
-        ensures { RefusedBy (copy_verdict (volume_on L.geometry self.old.array self.old.hand) (S.meaning self.old.shelf)) (self.new ≡ self.old) result }
+        ensures { RefusedBy (copy_verdict (known L.geometry self.old) (S.meaning (shelf_of self.old))) (self.new ≡ self.old) result }
     {
         self.judge_copy()?;
         let walk = self.array.walk();
@@ -189,7 +187,7 @@ impl<S: Shelf, L: Layout> Volume<S, L> {
 
     // Makes the granted row the home of its sectors. A grant of the row in hand empties the hand in any case.
     pub fn settle(&mut self, grant: Grant) -> Result<(), Refused>
-        ensures { RefusedBy (settle_verdict (volume_on L.geometry self.old.array self.old.hand) (S.meaning self.old.shelf) grant.row) ((self.new.array ≡ self.old.array) × ((self.new.shelf ≡ self.old.shelf) × (self.new.hand ≡ emptied self.old.hand grant.row))) result }
+        ensures { RefusedBy (settle_verdict (known L.geometry self.old) (S.meaning (shelf_of self.old)) (row_of grant)) (OnlyHand self.old self.new (emptied (hand_of self.old) (row_of grant))) result }
     {
         let row = grant.spend();
         let verdict = self.judge_settle(row);
@@ -202,10 +200,8 @@ impl<S: Shelf, L: Layout> Volume<S, L> {
 
     // Gives a grant back; its row is copied again later.
     pub fn hand_back(&mut self, grant: Grant) -> Result<(), Refused>
-        ensures verdict { HandedBack self.old.hand grant.row result }
-        ensures hand { self.new.hand ≡ emptied self.old.hand grant.row }
-        ensures array { self.new.array ≡ self.old.array }
-        ensures shelf { self.new.shelf ≡ self.old.shelf }
+        ensures verdict { HandedBack (hand_of self.old) (row_of grant) result }
+        ensures hand { OnlyHand self.old self.new (emptied (hand_of self.old) (row_of grant)) }
     {
         if self.empty_hand(grant.spend()) {
             Ok(())
@@ -216,7 +212,7 @@ impl<S: Shelf, L: Layout> Volume<S, L> {
 
     // Ends the move: the target is the volume's layout from here on.
     pub fn finish(&mut self) -> Result<Finished, Refused>
-        ensures { RefusedBy (finish_verdict (volume_on L.geometry self.old.array self.old.hand) (S.meaning self.old.shelf)) (self.new ≡ self.old) result }
+        ensures { RefusedBy (finish_verdict (known L.geometry self.old) (S.meaning (shelf_of self.old))) (self.new ≡ self.old) result }
     {
         self.judge_finish()?;
         let counts = Finished {
@@ -230,11 +226,12 @@ impl<S: Shelf, L: Layout> Volume<S, L> {
         Ok(counts)
     }
 
-    // A volume that no head was found or written for yet. Its head stands for none.
+    // A volume that no head was found or written for yet. Its head stands for none: the phase is shut, so that no call asks for
+    // the head, and as an Option it would be asked in each of them.
     fn unopened(shelf: S, source: L, target: L) -> Volume<S, L>
-        ensures shelf { result.shelf ≡ shelf }
-        ensures source { result.array.source ≡ source }
-        ensures target { result.array.target ≡ target }
+        ensures shelf { shelf_of result ≡ shelf }
+        ensures source { source_of result ≡ source }
+        ensures target { target_of result ≡ target }
     {
         let head = Head {
             number: 1,
@@ -258,8 +255,8 @@ impl<S: Shelf, L: Layout> Volume<S, L> {
 
     // A refused create or open leaves a volume whose calls answer that power is lost, if it was, else that this is no phase for them.
     fn shut_if_refused(&mut self, res: &Result<(), Refused>)
-        ensures shelf { self.new.shelf ≡ self.old.shelf }
-        ensures phase { ShutsBy self.old.array.phase self.new.array.phase res.now }
+        ensures shelf { shelf_of self.new ≡ shelf_of self.old }
+        ensures phase { ShutsBy (phase_of self.old) (phase_of self.new) res.now }
     {
         if let Err(refused) = res {
             self.array.phase = match refused.refusal {
@@ -271,8 +268,8 @@ impl<S: Shelf, L: Layout> Volume<S, L> {
 
     // Zeroes the source's places, and only then writes the first head.
     fn lay_out(&mut self, backup: u32, size: u64) -> Result<(), Refused>
-        ensures verdict { RefusedBy (create_verdict (L.named self.old.array.source) (L.geometry self.old.array.source) (S.meaning self.old.shelf) backup size) (self.new ≡ self.old) result }
-        ensures phase { OnOk result (self.new.array.phase ≡ Before) }
+        ensures verdict { RefusedBy (create_verdict (L.named (source_of self.old)) (L.geometry (source_of self.old)) (S.meaning (shelf_of self.old)) backup size) (self.new ≡ self.old) result }
+        ensures phase { OnOk result (phase_of self.new ≡ Before) }
     {
         self.judge_create(backup, size)?;
         let head = Head {
@@ -291,7 +288,7 @@ impl<S: Shelf, L: Layout> Volume<S, L> {
 
     // Finds the head that leads, has every member hold it, and finishes a write that it is armed for.
     fn take_up(&mut self) -> Result<(), Refused>
-        ensures { OnOk result (InUse self.new.array.phase) }
+        ensures { OnOk result (InUse (phase_of self.new)) }
     {
         let head = self.restarted_head()?;
         self.judge_head(&head)?;
@@ -335,7 +332,7 @@ impl<S: Shelf, L: Layout> Volume<S, L> {
 
     // A checkpoint that arms the head for a sector, or disarms it.
     fn checkpoint_armed(&mut self, armed: Option<u64>) -> Result<(), Refused>
-        ensures { self.new.array.phase ≡ self.old.array.phase }
+        ensures { phase_of self.new ≡ phase_of self.old }
     {
         let source = self.array.head.source;
         let progress = self.array.head.progress;
@@ -368,10 +365,8 @@ impl<S: Shelf, L: Layout> Volume<S, L> {
 
     // Empties the hand of a row, if that is the row in hand.
     fn empty_hand(&mut self, row: u64) -> bool
-        ensures matches { result ≡ is_hand self.old.hand row }
-        ensures hand { self.new.hand ≡ emptied self.old.hand row }
-        ensures array { self.new.array ≡ self.old.array }
-        ensures shelf { self.new.shelf ≡ self.old.shelf }
+        ensures matches { result ≡ is_hand (hand_of self.old) row }
+        ensures hand { OnlyHand self.old self.new (emptied (hand_of self.old) row) }
     {
         let matches = self.hand == Some(row);
         if matches {
@@ -383,13 +378,5 @@ impl<S: Shelf, L: Layout> Volume<S, L> {
 
 // Power found lost at an operation on a member's head.
 fn power_lost(operation: Operation, member: u64) -> Refused {
-    Refused::met(
-        Refusal::PowerLost,
-        Fault {
-            operation,
-            member,
-            sector: HEAD_AT,
-            row: None,
-        },
-    )
+    Refused::met(Refusal::PowerLost, Fault::at(operation, member, HEAD_AT))
 }

@@ -1,8 +1,11 @@
-use Rattle.std.proofs.Common.{arith}
-use Rattle.stage.proofs.Crews.{absent_next}
+use Rattle.std.proofs.Common.{◌∙◌, ◌+◌, ap, cond, rules, tests}
+use Rattle.std.specs.List.{fold}
+use Rattle.stage.proofs.Crews.{absent_counted, one_absent, ranged}
 use Rattle.stage.proofs.array.absent_below.Goals as goal
 
-pub loop-member-preserved : goal.loop-member-preserved
-loop-member-preserved g c =
-    let next = absent_next (g.S.Shelf.meaning c.args.shelf.now).present c.loop-member.member in
-    (omega (arith, c.missing-absent.ensures.one), omega (arith, next, c.missing-absent.ensures.count))
+pub returns : goal.returns
+returns g c =
+    let present = (g.S.Shelf.meaning c.args.shelf.now).present in
+    let run = c.count.ensures.runs in
+    let source = c.filter.ensures.runs run.0 run.0.seen run.1 in
+    run.3 ∙ (source.2.5 (λ a k. a + cond (present k) 0 1) (λ x b q n k. (search (rules, tests), one_absent (present x) b n (search (rules, tests)))) ∙ (ap (fold (λ a k. a + cond (present k) 0 1) 0) (ranged source.0 c.args.end (source.2.0 ∙ run.2) source.1) ∙ absent_counted present c.args.end))

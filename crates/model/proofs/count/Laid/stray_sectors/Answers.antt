@@ -1,11 +1,20 @@
-use Rattle.std.proofs.Common.{vec_items, arith}
-use Rattle.model.specs.Disks.{disk_of}
-use Rattle.model.specs.Strays.{is_stray}
-use Rattle.model.proofs.Looking.{count_next}
+use Rattle.std.proofs.Common.{ltb, ap, ◌∙◌, rules}
+use Rattle.std.specs.Int.NonZero.{non_zero_u32_get}
+use Rattle.std.proofs.lemmas.Bool.{cond-true, lt-ltb}
+use Rattle.model.specs.Contents.{home_differs_lem, home_in}
+use Rattle.model.specs.Disks.{filled, shown}
+use Rattle.model.specs.Strays.{is_stray, stray_below}
+use Rattle.model.proofs.Firsts.{count_same}
 use Rattle.model.proofs.count.Laid.stray_sectors.Goals as goal
 
-pub loop-sector-preserved : goal.loop-sector-preserved
-loop-sector-preserved g c =
-    let d = c.args.disk.now in
-    let next = count_next (is_stray (g.L.Layout.geometry c.args.self.now.source.now) (g.L.Layout.geometry c.args.self.now.target.now) (g.S.Shelf.meaning c.args.self.now.shelf.now) c.args.self.now.backup (disk_of (vec_items d.sectors) d.phase d.settled d.kept d.hand)) c.loop-sector.sector in
-    (omega (arith, c.stray-strays.ensures.one), omega (arith, next, c.stray-strays.ensures.count))
+pub returns-clause-value : goal.returns-clause-value
+returns-clause-value g c =
+    let s = g.L.Layout.geometry c.args.self.now.source.now in
+    let t = g.L.Layout.geometry c.args.self.now.target.now in
+    let a = g.S.Shelf.meaning c.args.self.now.shelf.now in
+    let b = non_zero_u32_get c.args.self.now.backup in
+    let d = shown c.args.disk.now in
+    c.count_below.ensures.value (is_stray s t a b (filled d)) (λ i y called. search rules)
+    ∙ (ap (stray_below s t a b (filled d)) c.size.ensures
+    ∙ count_same (is_stray s t a b (filled d)) (is_stray s t a b d) d.size
+    (λ i lt. ap (λ x. home_differs_lem (home_in d.phase s t d.settled d.kept i) s t a b x i) (cond-true (ltb i d.size) _ _ (lt-ltb i d.size lt))))
