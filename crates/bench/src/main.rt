@@ -4,7 +4,6 @@
 mod plain;
 mod rounds;
 
-use anyhow::anyhow;
 use kinds::stock::Stock;
 use layout::Layout;
 use layout::kind::Kind;
@@ -16,10 +15,6 @@ use std::env;
 use std::time::Instant;
 
 const ROUNDS: u64 = 2_000_000;
-
-fn laid(label: Label) -> anyhow::Result<Stock> {
-    Stock::from_label(&label).map_err(|_| anyhow!("a label out of limits"))
-}
 
 fn places(layout: &Stock) -> u64 {
     summed(ROUNDS, layout.capacity(), |sector| {
@@ -94,8 +89,15 @@ fn baseline(rt: &HostRuntime, layout: &Stock) -> anyhow::Result<()> {
 }
 
 fn measure_distance(rt: &HostRuntime) -> anyhow::Result<()> {
-    let source = laid(Label::stock(Kind::LeftSymmetric, 3, 1, 128, 1 << 17))?;
-    let target = laid(Label::stock(Kind::LeftSymmetric, 4, 1, 128, 1 << 17))?;
+    let parity = |members| Stock::from_label(&Label::stock(
+        Kind::LeftSymmetric,
+        members,
+        1,
+        128,
+        1 << 17,
+    ));
+    let source = parity(3)?;
+    let target = parity(4)?;
     let target_places = target.members().saturating_mul(target.depth());
     let found = timed(rt, target_places, || {
         distance(&source, &target, source.capacity())
@@ -108,7 +110,7 @@ fn measure_distance(rt: &HostRuntime) -> anyhow::Result<()> {
 }
 
 fn measure_all(rt: &HostRuntime) -> anyhow::Result<()> {
-    let stock = |kind, copies| laid(Label::stock(kind, 4, copies, 128, 1 << 20));
+    let stock = |kind, copies| Stock::from_label(&Label::stock(kind, 4, copies, 128, 1 << 20));
     let striped = stock(Kind::Striped, 1)?;
     measure(rt, "striped", &striped)?;
     measure(rt, "left-symmetric", &stock(Kind::LeftSymmetric, 1)?)?;

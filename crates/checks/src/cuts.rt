@@ -1,34 +1,18 @@
 // The power goes at each operation of a call in turn; what the next open shows is the volume from before the call or after it.
 use crate::setup::{
-    Ends, answered, far, lose, near, parity, put, settle_next, shows, striped, trial, walk_on,
-    wider, wrong_beside,
+    Ends, answered, far, lose, near, parity, put, settle_next, shows, striped, walk_on, wider,
+    wrong_beside,
 };
 use answer::{Fault, Operation, Refusal, Refused};
 use kinds::stock::Stock;
 use layout::Layout;
-use shelf::trial::TrialShelf;
+use shelf::trial::{Cut, TrialShelf};
 use std::alloc::Global;
 use std::process::Abort;
 use std::test::Fail;
 use volume::Volume;
 
 type Disk = Volume<TrialShelf, Stock>;
-
-// when the power goes, in operations from now, and which unsettled sectors then survive
-#[derive(Clone, Copy)]
-struct Cut {
-    fuse: u32,
-    choice: u32,
-}
-
-impl Cut {
-    // Sets the cut for the calls from here on.
-    fn set(self, volume: &mut Disk) {
-        let shelf = volume.shelf_mut();
-        shelf.set_fuse(self.fuse);
-        shelf.set_choice(self.choice);
-    }
-}
 
 const CHOICES: [u32; 3] = [0, 0xffff_ffff, 0x5555_5555];
 
@@ -46,8 +30,8 @@ struct Torn {
 // Cuts a write of sector 1 and opens again. The wrong sectors are counted before a member is lost and after, where the layout
 // bears that.
 fn cut_write(heap: Global, ends: Ends, cut: Cut) -> Result<Torn, Fail> {
-    let mut volume = ends.filled(trial(heap, 3, 6)?, 1, 2)?;
-    cut.set(&mut volume);
+    let mut volume = ends.filled(TrialShelf::blank(heap, 3, 6)?, 1, 2)?;
+    volume.shelf_mut().set_cut(cut);
     let granted = put(&mut volume, 1, 2).is_ok();
     let (mut opened, _) = ends.open(volume.into_shelf());
     let is_new = shows(&mut opened, 1, 2);
@@ -102,7 +86,7 @@ fn torn_writes(rt: HostRuntime) -> Result<(), Fail> {
 // The move from 3 members to 4 of 8 sectors with 4 slots, with so many rows settled, one row more kept where there is one, and
 // sector 3 in version 2. Where there is none, the keep is refused for that.
 fn under_way(heap: Global, ends: Ends, rows: u64) -> Result<Disk, Fail> {
-    let mut volume = ends.filled(trial(heap, 4, 11)?, 4, 8)?;
+    let mut volume = ends.filled(TrialShelf::blank(heap, 4, 11)?, 4, 8)?;
     volume.begin()?;
     walk_on(&mut volume, rows)?;
     if volume.kept() < ends.source.rows() {
@@ -141,6 +125,13 @@ fn reopened(volume: Disk, ends: Ends) -> Disk {
     turned
 }
 
+// what a cut step leaves: whether it was granted, and what is shown then
+#[derive(Clone, Copy)]
+struct Stepped {
+    granted: bool,
+    shown: Shown,
+}
+
 // what the open after a cut shows, and how many sectors are wrong from there to the end of the move
 #[derive(Clone, Copy, PartialEq, Eq, Debug)]
 struct Shown {
@@ -177,33 +168,33 @@ fn gone_on(volume: &mut Disk, version: u64, member: u64) -> Result<usize, Fail> 
     )
 }
 
-// Cuts a step, opens again, and goes on. Answers whether the step was granted, and what was shown then.
+// Cuts a step, opens again, and goes on.
 fn cut_step<F: Fn(&mut Disk) -> Result<(), Refused>>(
     heap: Global,
     step: &F,
     rows: u64,
     cut: Cut,
-) -> Result<(bool, Shown), Fail>
+) -> Result<Stepped, Fail>
     requires { F.IsAlwaysCallable step.now }
 {
     let ends = wider(4)?;
     let mut volume = under_way(heap, ends, rows)?;
-    cut.set(&mut volume);
+    volume.shelf_mut().set_cut(cut);
     let granted = step(&mut volume).is_ok();
     let mut opened = reopened(volume, ends);
     let version = if shows(&mut opened, 3, 3) { 3 } else { 2 };
     let settled = opened.settled();
     let kept = opened.kept();
     let wrong = gone_on(&mut opened, version, u64::from(cut.fuse % 4))?;
-    Ok((
+    Ok(Stepped {
         granted,
-        Shown {
+        shown: Shown {
             settled,
             kept,
             version,
             wrong,
         },
-    ))
+    })
 }
 
 // Cuts a step everywhere, with so many rows settled; what is shown is the old or the new, and once it is granted the new.
@@ -219,7 +210,7 @@ fn cut_everywhere<F: Fn(&mut Disk) -> Result<(), Refused>>(
     requires { F.IsAlwaysCallable step }
 {
     for fuse in 0..ENOUGH {
-        let (granted, shown) = cut_step(heap, &step, rows, Cut { fuse, choice })?;
+        let Stepped { granted, shown } = cut_step(heap, &step, rows, Cut { fuse, choice })?;
         assert_eq!(rt; shown, if granted || shown != old { new } else { old });
         if granted {
             return Ok(());
@@ -254,7 +245,7 @@ fn meets<F: Fn(&mut Disk) -> Result<(), Refused>>(
 {
     for &(fuse, operation, member, sector) in due {
         let mut volume = under_way(heap, wider(4)?, 1)?;
-        Cut { fuse, choice: 0 }.set(&mut volume);
+        volume.shelf_mut().set_cut(Cut { fuse, choice: 0 });
         let fault = Fault {
             operation,
             member,

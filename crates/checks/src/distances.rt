@@ -1,5 +1,5 @@
 // How far moves overlap, where a sector lives half-way, and whole moves.
-use crate::setup::{Ends, far, near, parity, plain, striped, walk_on, wider, wrong};
+use crate::setup::{Ends, far, near, parity, striped, walk_on, wider, wrong};
 use answer::{Refusal, Refused};
 use kinds::stock::Stock;
 use layout::Layout;
@@ -131,7 +131,7 @@ fn whole_moves(rt: HostRuntime) -> Result<(), Fail> {
         (fewer()?, 5, 12, Err(Refusal::DistanceAboveBackup)),
         (mirrored()?, 16, 16, due(16, 6, 8)),
     ] {
-        let volume = ends.filled(plain(rt.alloc(), 4, 31)?, backup, size)?;
+        let volume = ends.filled(PlainShelf::blank(rt.alloc(), 4, 31)?, backup, size)?;
         let moved = Moved::of(ends, volume).map_err(|refused| refused.refusal);
         assert_eq!(rt; moved, due);
     }

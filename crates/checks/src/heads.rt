@@ -1,5 +1,5 @@
 // The bytes of heads, and which head leads.
-use crate::setup::{Answer, Draft, answered, plain, wider};
+use crate::setup::{Answer, Draft, answered, wider};
 use answer::Refusal;
 use head::{Head, MOST_BACKUP, MOST_NUMBER, Progress};
 use layout::Layout;
@@ -345,7 +345,7 @@ struct Opened {
 impl Opened {
     // Opens with heads of these numbers and sizes on members 0 to 3. Where there is none, a head with a higher number is damaged.
     fn of(heap: Global, heads: [Option<(u64, u64)>; 4]) -> Result<Opened, Fail> {
-        let mut shelf = plain(heap, 4, 13)?;
+        let mut shelf = PlainShelf::blank(heap, 4, 13)?;
         for (member, head) in heads.iter().enumerate() {
             let (number, size) = head.unwrap_or((7, 14));
             let mut bytes = idle(number, size)?;

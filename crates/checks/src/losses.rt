@@ -1,8 +1,8 @@
 // Members that are lost: what can still be read and written, and what one loss too many gives.
 use crate::refusals::{Accesses, Answers};
 use crate::setup::{
-    Answer, Ends, answered, far, lose, near, parity, pattern, put, shows, striped, trial,
-    trial_move, walk_on, wrong, wrong_beside,
+    Answer, Ends, answered, far, lose, near, parity, pattern, put, shows, striped, trial_move,
+    walk_on, wrong, wrong_beside,
 };
 use answer::{Fault, Operation, Refusal, Refused};
 use kinds::stock::Stock;
@@ -40,14 +40,15 @@ struct Survival {
 fn survives(heap: Global, label: Label, first: u64) -> Result<Survival, Fail> {
     let ends = Ends::still(label)?;
     let members = ends.source.members();
-    let mut volume = ends.filled(trial(heap, members, 12)?, 1, 6)?;
+    let mut volume = ends.filled(TrialShelf::blank(heap, members, 12)?, 1, 6)?;
     let last = first.saturating_add(ends.source.loss());
+    let one_more = last % members;
     for next in first..last {
         lose(&mut volume, next % members)?;
     }
     let before = wrong(&mut volume);
     let rewritten = rewritten(&mut volume)?;
-    lose(&mut volume, last % members)?;
+    lose(&mut volume, one_more)?;
     Ok(Survival {
         wrong: before,
         rewritten,
@@ -101,7 +102,7 @@ fn stale_peers(rt: HostRuntime) -> Result<(), Fail> {
     Ok(())
 }
 
-// Too many members absent in a move, and then the power gone too: 15 before 3, and 16 before 15.
+// Too many members absent in a move, and then the power gone too: lost members go before the phase, and lost power before both.
 // The write finds sector 1's member absent, which parity bears, and then that of sector 0 itself.
 #[test]
 fn lost_in_a_move(rt: HostRuntime) -> Result<(), Fail> {
@@ -132,7 +133,7 @@ fn lost_in_a_move(rt: HostRuntime) -> Result<(), Fail> {
 #[test]
 fn target_bears_less(rt: HostRuntime) -> Result<(), Fail> {
     let ends = Ends::new(parity(3, 1, 4), striped(3, 1, 4))?;
-    let mut volume = ends.filled(trial(rt.alloc(), 3, 16)?, 8, 8)?;
+    let mut volume = ends.filled(TrialShelf::blank(rt.alloc(), 3, 16)?, 8, 8)?;
     lose(&mut volume, 2)?;
     put(&mut volume, 0, 1)?;
     assert_eq!(rt; answered(volume.begin()), Err(Refusal::MembersLost));

@@ -1,8 +1,9 @@
 // Where the stock layouts put sectors and parities, and the labels that name them.
-use crate::setup::{far, laid, near, parity, striped};
+use crate::setup::{far, near, parity, striped};
 use answer::Refusal;
 use kinds::stock::Stock;
 use layout::Layout;
+use layout::field::Field;
 use layout::label::Label;
 use layout::place::{Owner, Place};
 use std::test::Fail;
@@ -91,7 +92,7 @@ fn worked_places(rt: HostRuntime) -> Result<(), Fail> {
         (near(3, 2, 1, 3), datum(3, 2), (0, 0)),
         (far(3, 2, 1, 6), datum(9, 1), (0, 0)),
     ] {
-        assert_eq!(rt; spot(&laid(label)?, owner), Some(due));
+        assert_eq!(rt; spot(&Stock::from_label(&label)?, owner), Some(due));
     }
     Ok(())
 }
@@ -114,7 +115,7 @@ fn round_trips(rt: HostRuntime) -> Result<(), Fail> {
         far(5, 3, 2, 14),
         far(6, 4, 1, 9),
     ] {
-        let layout = laid(label)?;
+        let layout = Stock::from_label(&label)?;
         assert_eq!(rt; astray(&layout), [0, 0]);
         assert_eq!(rt; misowned(&layout), 0);
         assert_eq!(rt; ungrouped(&layout), 0);
@@ -124,7 +125,7 @@ fn round_trips(rt: HostRuntime) -> Result<(), Fail> {
 
 #[test]
 fn label_bytes(rt: HostRuntime) -> Result<(), Fail> {
-    let left = laid(parity(4, 1, 8))?.label();
+    let left = Stock::from_label(&parity(4, 1, 8))?.label();
     let bytes = [128, 7, 3, 9, 1, 2, 3, 4, 11, 12, 13, 14, 15, 16, 17, 255];
     let odd = Label {
         kind: 128,

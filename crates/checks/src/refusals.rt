@@ -1,7 +1,7 @@
 // Which call is refused with which refusal, and which of two goes first.
 use crate::setup::{
-    Answer, Ends, answered, laid, parity, pattern, plain, plain_move, put, stray_grant, striped,
-    trial, try_copy, walk_on, wider, wrong, wrong_beside,
+    Answer, Ends, answered, parity, pattern, plain_move, put, stray_grant, striped, try_copy,
+    walk_on, wider, wrong, wrong_beside,
 };
 use answer::{Operation, Refusal};
 use kinds::stock::Stock;
@@ -163,7 +163,7 @@ fn refused_calls_leave_all(rt: HostRuntime) -> Result<(), Fail> {
     let run = plain_move(rt.alloc())?.into_shelf().into_bytes();
     let copy = run.clone()?;
     let other = Ends {
-        target: laid(parity(3, 2, 4))?,
+        target: Stock::from_label(&parity(3, 2, 4))?,
         ..ends
     };
     let (mut volume, _) = other.open(PlainShelf::new(4, 15, run));
@@ -308,7 +308,7 @@ fn stale_grant(rt: HostRuntime) -> Result<(), Fail> {
 // What begin answers on a shelf of 3 members with 10 sectors, 3 slots, and a volume of 8 sectors; and the distance.
 fn begun(heap: Global, target: Label) -> Result<(Answer, u64), Fail> {
     let ends = Ends::new(parity(3, 1, 4), target)?;
-    let (mut volume, _) = ends.create(plain(heap, 3, 10)?, 3, 8);
+    let (mut volume, _) = ends.create(PlainShelf::blank(heap, 3, 10)?, 3, 8);
     Ok((
         answered(volume.begin()),
         distance(&ends.source, &ends.target, 8),
@@ -332,7 +332,7 @@ fn begin_refused(rt: HostRuntime) -> Result<(), Fail> {
 
 // A shelf of 3 members, of which so many are found absent, and the power lost too where the fuse is that short.
 fn worn(heap: Global, lost: u64, fuse: u32) -> Result<TrialShelf, Fail> {
-    let mut shelf = trial(heap, 3, 9)?;
+    let mut shelf = TrialShelf::blank(heap, 3, 9)?;
     shelf.set_fuse(fuse);
     for member in 0..lost {
         shelf.lose(member)?;
@@ -397,7 +397,7 @@ const CREATIONS: [Creation; 13] = [
         due: Err(Refusal::MembersLost),
         ..CREATED
     },
-    // 11 before 16, and 16 before 15
+    // limits go before power, and power before members
     Creation {
         lost: 2,
         fuse: 2,
@@ -423,7 +423,7 @@ fn create_refused(rt: HostRuntime) -> Result<(), Fail> {
     Ok(())
 }
 
-// A shut volume's calls answer 3, before all else; its shelf can be opened.
+// A shut volume's calls answer that this is no phase for them, before all else; its shelf can be opened.
 #[test]
 fn shut_volume(rt: HostRuntime) -> Result<(), Fail> {
     let ends = wider(8)?;
@@ -443,7 +443,7 @@ fn shut_volume(rt: HostRuntime) -> Result<(), Fail> {
     Ok(())
 }
 
-// Shut for want of power they answer 16.
+// Shut for want of power they answer that it is lost.
 #[test]
 fn shut_without_power(rt: HostRuntime) -> Result<(), Fail> {
     let ends = wider(4)?;

@@ -9,7 +9,7 @@ use sector::{SECTOR, Sector, zeros};
 use shelf::plain::PlainShelf;
 use shelf::trial::TrialShelf;
 use shelf::{Failure, Shelf};
-use std::alloc::{AllocError, Global};
+use std::alloc::Global;
 use std::test::Fail;
 use volume::Volume;
 use volume::grant::Grant;
@@ -38,10 +38,6 @@ pub fn far(members: u8, copies: u8, chunk: u32, depth: u64) -> Label {
     Label::stock(Kind::Far, members, copies, chunk, depth)
 }
 
-pub fn laid(label: Label) -> Result<Stock, Refusal> {
-    Stock::from_label(&label)
-}
-
 // The two layouts of a move.
 #[derive(Clone, Copy)]
 pub struct Ends {
@@ -52,8 +48,8 @@ pub struct Ends {
 impl Ends {
     pub fn new(source: Label, target: Label) -> Result<Ends, Refusal> {
         Ok(Ends {
-            source: laid(source)?,
-            target: laid(target)?,
+            source: Stock::from_label(&source)?,
+            target: Stock::from_label(&target)?,
         })
     }
 
@@ -104,24 +100,8 @@ pub fn wider(depth: u64) -> Result<Ends, Refusal> {
     Ends::new(parity(3, 1, depth), parity(4, 1, depth))
 }
 
-// The bytes of so many images of a shelf.
-pub fn bytes(heap: Global, members: u64, sectors: u64, images: u64) -> Result<Vec<u8>, AllocError> {
-    let count = members
-        .saturating_mul(sectors)
-        .saturating_mul(images)
-        .saturating_mul(512);
-    vec![in heap; 0u8; count as usize]
-}
-
-pub fn plain(heap: Global, members: u64, sectors: u64) -> Result<PlainShelf, AllocError> {
-    Ok(PlainShelf::new(members, sectors, bytes(heap, members, sectors, 1)?))
-}
-
-pub fn trial(heap: Global, members: u64, sectors: u64) -> Result<TrialShelf, AllocError> {
-    Ok(TrialShelf::new(members, sectors, bytes(heap, members, sectors, 2)?))
-}
-
-// What a version of a sector holds; version 0 is what a new volume has.
+// What a version of a sector holds; version 0 is what a new volume has. The tour of the main program has a formula of its own, and
+// what both write is fixed.
 pub fn pattern(sector: u64, version: u64) -> Sector {
     let mut out = zeros();
     if version == 0 {
@@ -182,7 +162,8 @@ pub fn settle_next<S: Shelf>(volume: &mut Volume<S, Stock>) -> Result<(), Refuse
     volume.settle(grant)
 }
 
-// Copies the next row and hands it back.
+// Copies the next row and hands it back. The tour of the main program has these two lines too: for them alone a crate would have to
+// stand between.
 pub fn try_copy<S: Shelf>(volume: &mut Volume<S, Stock>) -> Result<(), Refused> {
     let grant = volume.copy()?;
     volume.hand_back(grant)
@@ -205,19 +186,19 @@ pub fn walk_on<S: Shelf>(volume: &mut Volume<S, Stock>, rows: u64) -> Result<(),
 
 // The grant of row 0 of some other volume.
 pub fn stray_grant(heap: Global) -> Result<Grant, Fail> {
-    let (mut volume, _) = wider(2)?.create(plain(heap, 4, 7)?, 2, 0);
+    let (mut volume, _) = wider(2)?.create(PlainShelf::blank(heap, 4, 7)?, 2, 0);
     volume.begin()?;
     Ok(volume.copy()?)
 }
 
 // The move of parity from 3 members to 4 on a shelf that loses nothing: depth 8, 4 slots, 16 sectors, each in version 1.
 pub fn plain_move(heap: Global) -> Result<Volume<PlainShelf, Stock>, Fail> {
-    Ok(wider(8)?.filled(plain(heap, 4, 15)?, 4, 16)?)
+    Ok(wider(8)?.filled(PlainShelf::blank(heap, 4, 15)?, 4, 16)?)
 }
 
 // The same on a trial shelf.
 pub fn trial_move(heap: Global) -> Result<Volume<TrialShelf, Stock>, Fail> {
-    Ok(wider(8)?.filled(trial(heap, 4, 15)?, 4, 16)?)
+    Ok(wider(8)?.filled(TrialShelf::blank(heap, 4, 15)?, 4, 16)?)
 }
 
 // Has a member be found absent at its next operation.

@@ -1,9 +1,9 @@
 // The shelves themselves: the fuse, the choice word, losses and ranges.
-use crate::setup::{Ends, answered, bytes, lies_at, pattern, striped, trial};
+use crate::setup::{Ends, answered, lies_at, pattern, striped};
 use answer::Refusal;
 use sector::{SECTOR, zeros};
 use shelf::plain::PlainShelf;
-use shelf::trial::TrialShelf;
+use shelf::trial::{NEVER, TrialShelf};
 use shelf::{Answer, Failure, Shelf};
 use std::alloc::Global;
 use std::test::Fail;
@@ -32,7 +32,7 @@ fn all_answer<S: Shelf>(shelf: &mut S, member: u64, sector: u64, due: Answer) ->
 // A fuse of 1 lets one write pass. The next is cut, and has reached the current image all the same; then nothing changes.
 #[test]
 fn fuse_cuts(rt: HostRuntime) -> Result<(), Fail> {
-    let mut shelf = trial(rt.alloc(), 2, 2)?;
+    let mut shelf = TrialShelf::blank(rt.alloc(), 2, 2)?;
     shelf.set_fuse(1);
     let answered = put(&mut shelf, 0, 0, 1) == Ok(())
         && put(&mut shelf, 0, 1, 2) == Err(Failure::Off);
@@ -51,7 +51,7 @@ fn fuse_cuts(rt: HostRuntime) -> Result<(), Fail> {
 // With 20 sectors to a member, sectors 12 and 13 of member 1 have the bits of sectors 0 and 1 of member 0.
 // Tells whether each comes out of a restart as it was written; what was flushed before is not at stake.
 fn chosen(heap: Global, choice: u32) -> Result<[bool; 4], Fail> {
-    let mut shelf = trial(heap, 2, 20)?;
+    let mut shelf = TrialShelf::blank(heap, 2, 20)?;
     put(&mut shelf, 0, 0, 1)?;
     shelf.flush(0)?;
     put(&mut shelf, 0, 1, 2)?;
@@ -83,7 +83,7 @@ fn choice_by_bit(rt: HostRuntime) -> Result<(), Fail> {
 // A loss shows at the member's next operation, and the member stays as it was.
 #[test]
 fn losses_show(rt: HostRuntime) -> Result<(), Fail> {
-    let mut shelf = trial(rt.alloc(), 3, 2)?;
+    let mut shelf = TrialShelf::blank(rt.alloc(), 3, 2)?;
     put(&mut shelf, 1, 0, 1)?;
     let lost = shelf.lose(1).is_ok() && shelf.lose(3).is_err();
     let early = holds(&mut shelf, 0, 0, 0) && shelf.is_present(1);
@@ -117,7 +117,7 @@ fn refuses_ranges<S: Shelf>(shelf: &mut S) -> bool {
 // What is out of range burns no fuse and changes nothing.
 #[test]
 fn ranges(rt: HostRuntime) -> Result<(), Fail> {
-    let mut shelf = trial(rt.alloc(), 2, 3)?;
+    let mut shelf = TrialShelf::blank(rt.alloc(), 2, 3)?;
     shelf.set_fuse(0);
     assert!(rt; refuses_ranges(&mut shelf) && shelf.is_on());
     let run = shelf.into_bytes();
@@ -159,7 +159,11 @@ fn sizes(rt: HostRuntime) {
 fn misfits(rt: HostRuntime) -> Result<(), Fail> {
     let ends = Ends::still(striped(2, 1, 1))?;
     for (members, sectors) in [(1, 2), (17, 1), (2, 33_554_433), (2, 0), (3, 1)] {
-        let shelf = TrialShelf::new(members, sectors, bytes(rt.alloc(), 2, 1, 2)?);
+        let shelf = TrialShelf::new(
+            members,
+            sectors,
+            TrialShelf::blank(rt.alloc(), 2, 1)?.into_bytes(),
+        );
         assert_eq!(rt; (shelf.members(), shelf.sectors()), (2, 0));
         let (shut, created) = ends.create(shelf, 1, 0);
         let (_, opened) = ends.open(shut.into_shelf());
@@ -167,6 +171,26 @@ fn misfits(rt: HostRuntime) -> Result<(), Fail> {
             [answered(created), answered(opened)],
             [Err(Refusal::OutOfLimits), Err(Refusal::NoHead)]
         );
+    }
+    Ok(())
+}
+
+// A shelf that is made of zeros has what was asked for; out of limits it has 2 members without sectors.
+#[test]
+fn blank_shelves(rt: HostRuntime) -> Result<(), Fail> {
+    for (members, sectors, due) in [
+        (2, 1, (2, 1)),
+        (3, 2, (3, 2)),
+        (1, 2, (2, 0)),
+        (2, 0, (2, 0)),
+    ] {
+        let plain = PlainShelf::blank(rt.alloc(), members, sectors)?;
+        assert_eq!(rt; (plain.members(), plain.sectors()), due);
+        assert!(rt; plain.into_bytes().iter().all(|byte| *byte == 0));
+        let trial = TrialShelf::blank(rt.alloc(), members, sectors)?;
+        assert_eq!(rt; (trial.members(), trial.sectors()), due);
+        assert_eq!(rt; (trial.fuse(), trial.choice()), (NEVER, 0));
+        assert!(rt; trial.into_bytes().iter().all(|byte| *byte == 0));
     }
     Ok(())
 }

@@ -1,13 +1,12 @@
 // Heads that no run of calls has left: labels and numbers that do not fit, and the last checkpoint numbers.
 use crate::refusals::{InHand, WHILE_HELD};
-use crate::setup::{
-    Answer, Draft, Ends, answered, laid, parity, plain, put, put_heads, trial, try_copy, wider,
-};
+use crate::setup::{Answer, Draft, Ends, answered, parity, put, put_heads, try_copy, wider};
 use answer::Refusal;
 use head::{MOST_NUMBER, Progress};
 use kinds::stock::Stock;
 use layout::Layout;
 use shelf::plain::PlainShelf;
+use shelf::trial::TrialShelf;
 use std::alloc::Global;
 use std::test::Fail;
 use volume::Volume;
@@ -26,7 +25,8 @@ fn progress(target: Stock, rows: Rows) -> Progress {
     }
 }
 
-// what open is given in place of the layouts that the head names
+// What open is given in place of the layouts that the head names: an enum, since the cases are constants and a layout is made when
+// they run.
 #[derive(Clone, Copy, PartialEq, Eq, Debug)]
 enum Given {
     Both,
@@ -47,7 +47,7 @@ struct Case {
 // What an open answers for it.
 fn judged(heap: Global, case: Case) -> Result<Answer, Fail> {
     let ends = wider(8)?;
-    let other = laid(parity(3, 2, 8))?;
+    let other = Stock::from_label(&parity(3, 2, 8))?;
     let draft = Draft {
         number: 7,
         source: ends.source.label(),
@@ -56,7 +56,7 @@ fn judged(heap: Global, case: Case) -> Result<Answer, Fail> {
         backup: case.backup,
         armed: case.armed,
     };
-    let mut shelf = plain(heap, 4, 15)?;
+    let mut shelf = PlainShelf::blank(heap, 4, 15)?;
     put_heads(&mut shelf, &draft.head()?)?;
     let given = match case.given {
         Given::Both => ends,
@@ -115,7 +115,7 @@ const OTHERS: [Case; 3] = [
         rows: Some((0, 0)),
         ..IDLE
     },
-    // 13 before 14
+    // other labels go before numbers that do not fit
     Case {
         given: Given::OtherSource,
         size: 17,
@@ -195,7 +195,7 @@ fn open_order(rt: HostRuntime) -> Result<(), Fail> {
             backup: 2,
             armed: Some(0),
         };
-        let mut shelf = trial(rt.alloc(), 3, 9)?;
+        let mut shelf = TrialShelf::blank(rt.alloc(), 3, 9)?;
         put_heads(&mut shelf, &draft.head()?)?;
         for member in 0..lost {
             shelf.lose(member)?;
@@ -217,7 +217,7 @@ fn aged(heap: Global, left: u64, rows: Rows) -> Result<Volume<PlainShelf, Stock>
         backup: 4,
         armed: None,
     };
-    let mut shelf = plain(heap, 4, 15)?;
+    let mut shelf = PlainShelf::blank(heap, 4, 15)?;
     put_heads(&mut shelf, &draft.head()?)?;
     let (volume, opened) = ends.open(shelf);
     opened?;

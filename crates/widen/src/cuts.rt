@@ -3,35 +3,10 @@ use crate::tour::{Plan, Tour, tell};
 use answer::Refused;
 use anyhow::anyhow;
 use layout::Layout;
-use shelf::trial::TrialShelf;
+use shelf::trial::{Cut, TrialShelf};
 use volume::Volume;
 
-// when the power goes, in operations from now, and which unsettled sectors then survive
-#[derive(Clone, Copy)]
-pub struct Cut {
-    fuse: u32,
-    choice: u32,
-}
-
-impl Cut {
-    // After so many operations; no unsettled sector survives.
-    pub fn after(fuse: u32) -> Cut {
-        Cut { fuse, choice: 0 }
-    }
-
-    // The same, with these for survivors.
-    pub fn choosing(self, choice: u32) -> Cut {
-        Cut { choice, ..self }
-    }
-}
-
 impl Tour<TrialShelf> {
-    fn set(&mut self, cut: Cut) {
-        let shelf = self.volume.shelf_mut();
-        shelf.set_fuse(cut.fuse);
-        shelf.set_choice(cut.choice);
-    }
-
     // Takes the shelf out of the volume and opens it again with the layouts that its head names.
     pub fn reopened(self, rt: &HostRuntime) -> anyhow::Result<Tour<TrialShelf>> {
         let shelf = self.volume.into_shelf();
@@ -65,7 +40,7 @@ impl Tour<TrialShelf> {
         cut: Cut,
     ) -> anyhow::Result<Tour<TrialShelf>> {
         let next = self.next_version();
-        self.set(cut);
+        self.volume.shelf_mut().set_cut(cut);
         let result = self.attempt(sector);
         tell(rt, format_args!("write {sector}, power cut"), result)?;
         let mut opened = self.reopened(rt)?;
@@ -79,7 +54,7 @@ impl Tour<TrialShelf> {
         Ok(opened)
     }
 
-    // Copies the next row and hands it back.
+    // Copies the next row and hands it back. The tests have these two lines too: for them alone a crate would have to stand between.
     fn try_copy(&mut self) -> Result<(), Refused> {
         let grant = self.volume.copy()?;
         self.volume.hand_back(grant)
@@ -99,7 +74,7 @@ impl Tour<TrialShelf> {
     // Cuts the power in a copy. The row is not in hand after the next open.
     pub fn cut_copy(mut self, rt: &HostRuntime, cut: Cut) -> anyhow::Result<Tour<TrialShelf>> {
         self.make_ready(rt)?;
-        self.set(cut);
+        self.volume.shelf_mut().set_cut(cut);
         let result = self.try_copy();
         tell(rt, "copy, power cut", result)?;
         let mut opened = self.reopened(rt)?;
@@ -113,7 +88,7 @@ impl Tour<TrialShelf> {
         match self.volume.copy() {
             Ok(grant) => {
                 let row = grant.row();
-                self.set(cut);
+                self.volume.shelf_mut().set_cut(cut);
                 let result = self.volume.settle(grant);
                 tell(rt, format_args!("settle row {row}, power cut"), result)?;
             }

@@ -6,50 +6,28 @@ mod pattern;
 mod steps;
 mod tour;
 
-use anyhow::{anyhow, bail};
-use cuts::Cut;
+use answer::Refusal;
+use anyhow::bail;
 use kinds::stock::Stock;
 use layout::Layout;
 use layout::kind::Kind;
 use layout::label::Label;
 use shelf::plain::PlainShelf;
-use shelf::trial::TrialShelf;
-use std::alloc::{AllocError, Global};
+use shelf::trial::{Cut, TrialShelf};
 use tour::{Plan, Tally, Tour};
 
 const SECTORS: u64 = 48;
 
-// The layout that a stock label names.
-fn laid(label: Label) -> anyhow::Result<Stock> {
-    Stock::from_label(&label).map_err(|_| anyhow!("a label out of limits"))
+fn striped(members: u8, chunk: u32, depth: u64) -> Result<Stock, Refusal> {
+    Stock::from_label(&Label::stock(Kind::Striped, members, 1, chunk, depth))
 }
 
-fn striped(members: u8, chunk: u32, depth: u64) -> anyhow::Result<Stock> {
-    laid(Label::stock(Kind::Striped, members, 1, chunk, depth))
-}
-
-fn parity(members: u8, chunk: u32, depth: u64) -> anyhow::Result<Stock> {
-    laid(Label::stock(Kind::LeftSymmetric, members, 1, chunk, depth))
-}
-
-fn bytes(heap: Global, members: u64, images: u64) -> Result<Vec<u8>, AllocError> {
-    let count = members
-        .saturating_mul(SECTORS)
-        .saturating_mul(images)
-        .saturating_mul(512);
-    vec![in heap; 0u8; count as usize]
-}
-
-fn plain(rt: &HostRuntime, members: u64) -> anyhow::Result<PlainShelf> {
-    Ok(PlainShelf::new(members, SECTORS, bytes(rt.alloc(), members, 1)?))
-}
-
-fn trial(rt: &HostRuntime, members: u64) -> anyhow::Result<TrialShelf> {
-    Ok(TrialShelf::new(members, SECTORS, bytes(rt.alloc(), members, 2)?))
+fn parity(members: u8, chunk: u32, depth: u64) -> Result<Stock, Refusal> {
+    Stock::from_label(&Label::stock(Kind::LeftSymmetric, members, 1, chunk, depth))
 }
 
 // Left-symmetric parity from 3 members to 4.
-fn wider() -> anyhow::Result<Plan> {
+fn wider() -> Result<Plan, Refusal> {
     Ok(Plan {
         source: parity(3, 1, 8)?,
         target: parity(4, 1, 8)?,
@@ -64,7 +42,7 @@ fn widen_plain(rt: &HostRuntime) -> anyhow::Result<Tally> {
     println!(rt;
         "plain shelf of 4 members: left-symmetric parity, 3 members to 4, 16 sectors, 4 slots"
     )?;
-    let mut tour = Tour::start(rt, plain(rt, 4)?, wider()?)?;
+    let mut tour = Tour::start(rt, PlainShelf::blank(rt.alloc(), 4, SECTORS)?, wider()?)?;
     tour.check(rt)?;
     tour.begin(rt)?;
     tour.go_on(rt, 1000)?;
@@ -72,23 +50,47 @@ fn widen_plain(rt: &HostRuntime) -> anyhow::Result<Tally> {
     Ok(tour.tally)
 }
 
+// A cut after so many operations that no unsettled sector survives.
+fn dark_after(fuse: u32) -> Cut {
+    Cut { fuse, choice: 0 }
+}
+
 // The same move with the power cut in a write, a copy and a settle, and a member lost half-way.
 fn widen_trial(rt: &HostRuntime) -> anyhow::Result<Tally> {
     println!(rt; "trial shelf of 4 members: the same, with cuts and a lost member")?;
-    let mut tour = Tour::start(rt, trial(rt, 4)?, wider()?)?;
+    let mut tour = Tour::start(rt, TrialShelf::blank(rt.alloc(), 4, SECTORS)?, wider()?)?;
     tour.begin(rt)?;
     tour.go_on(rt, 3)?;
-    let mut tour = tour.cut_write(rt, 15, Cut::after(12))?;
+    let mut tour = tour.cut_write(rt, 15, dark_after(12))?;
     tour.go_on(rt, 1)?;
-    let tour = tour.cut_write(rt, 15, Cut::after(23).choosing(0x5555_5555))?;
-    let tour = tour.cut_write(rt, 4, Cut::after(26))?;
-    let mut tour = tour.cut_copy(rt, Cut::after(4).choosing(0x0f0f_0f0f))?;
+    let tour = tour.cut_write(
+        rt,
+        15,
+        Cut {
+            fuse: 23,
+            choice: 0x5555_5555,
+        },
+    )?;
+    let tour = tour.cut_write(rt, 4, dark_after(26))?;
+    let mut tour = tour.cut_copy(
+        rt,
+        Cut {
+            fuse: 4,
+            choice: 0x0f0f_0f0f,
+        },
+    )?;
     tour.go_on(rt, 2)?;
     tour.lose(rt, 1)?;
     tour.go_on(rt, 2)?;
     tour.check(rt)?;
-    let tour = tour.cut_settle(rt, Cut::after(1).choosing(0x3333_3333))?;
-    let mut tour = tour.cut_settle(rt, Cut::after(4))?;
+    let tour = tour.cut_settle(
+        rt,
+        Cut {
+            fuse: 1,
+            choice: 0x3333_3333,
+        },
+    )?;
+    let mut tour = tour.cut_settle(rt, dark_after(4))?;
     tour.go_on(rt, 1000)?;
     tour.check(rt)?;
     let mut tour = tour.turned().reopened(rt)?;
@@ -99,7 +101,7 @@ fn widen_trial(rt: &HostRuntime) -> anyhow::Result<Tally> {
 // A whole move between two kinds, told shortly.
 fn change(rt: &HostRuntime, name: &str, plan: Plan) -> anyhow::Result<Tally> {
     println!(rt; "{name}")?;
-    let mut tour = Tour::start(rt, trial(rt, 5)?, plan)?;
+    let mut tour = Tour::start(rt, TrialShelf::blank(rt.alloc(), 5, SECTORS)?, plan)?;
     tour.begin(rt)?;
     tour.go_on(rt, 1000)?;
     let mut tour = tour.turned().reopened(rt)?;
@@ -119,8 +121,8 @@ fn quiet(source: Stock, target: Stock, backup: u32, size: u64) -> Plan {
 
 // Moves between other kinds.
 fn change_kinds(rt: &HostRuntime) -> anyhow::Result<Tally> {
-    let near = laid(Label::stock(Kind::Near, 5, 2, 2, 8))?;
-    let far = laid(Label::stock(Kind::Far, 4, 2, 1, 12))?;
+    let near = Stock::from_label(&Label::stock(Kind::Near, 5, 2, 2, 8))?;
+    let far = Stock::from_label(&Label::stock(Kind::Far, 4, 2, 1, 12))?;
     let mut all = Tally::default();
     for (name, plan) in [
         (

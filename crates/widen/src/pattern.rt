@@ -1,7 +1,7 @@
 // What the tour writes: each sector's content tells its number and the version of the write.
 use sector::{Sector, zeros};
 
-// Version 0 is what a new volume holds.
+// Version 0 is what a new volume holds. The tests have a formula of their own, and what both write is fixed.
 pub fn pattern(sector: u64, version: u64) -> Sector {
     let mut out = zeros();
     if version == 0 {
