@@ -94,7 +94,8 @@ impl From<Operation> for u8 {
 }
 
 // The operation that met a lost member too many, or the end of power.
-// Member and shelf sector are 0 where the operation names none; row is the one that a keep, a copy or a settle was about.
+// Member and shelf sector are 0 where the operation names none, and not None: the documents give a fault these numbers.
+// Row is the one that a keep, a copy or a settle was about.
 #[derive(Clone, Copy, PartialEq, Eq, Debug)]
 pub struct Fault {
     pub operation: Operation,

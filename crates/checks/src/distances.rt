@@ -86,12 +86,13 @@ fn homes(rt: HostRuntime) {
     );
 }
 
-// what a whole move tells, and the sectors that are wrong at its end and once it is opened anew
+// what a whole move tells, and how many sectors are wrong at its end and once it is opened anew
 #[derive(Clone, Copy, PartialEq, Eq, Debug)]
 struct Moved {
     distance: u64,
     counts: Finished,
-    wrong: [usize; 2],
+    ended_wrong: usize,
+    opened_wrong: usize,
 }
 
 impl Moved {
@@ -100,12 +101,13 @@ impl Moved {
         let distance = volume.begin()?;
         walk_on(&mut volume, ends.target.rows())?;
         let counts = volume.finish()?;
-        let ended = wrong(&mut volume);
+        let ended_wrong = wrong(&mut volume);
         let (mut opened, _) = ends.turned().open(volume.into_shelf());
         Ok(Moved {
             distance,
             counts,
-            wrong: [ended, wrong(&mut opened)],
+            ended_wrong,
+            opened_wrong: wrong(&mut opened),
         })
     }
 }
@@ -115,7 +117,8 @@ fn due(distance: u64, rows: u64, kept: u64) -> Result<Moved, Refusal> {
     Ok(Moved {
         distance,
         counts: Finished { rows, kept },
-        wrong: [0; 2],
+        ended_wrong: 0,
+        opened_wrong: 0,
     })
 }
 

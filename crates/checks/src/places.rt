@@ -30,8 +30,14 @@ fn is_found<L: Layout>(layout: &L, owner: Owner) -> bool {
     spot(layout, owner).is_some_and(|at| layout.owner(at) == owner)
 }
 
-// The sectors of which a copy is not found again, and the groups whose parity is not.
-fn astray<L: Layout>(layout: &L) -> [usize; 2] {
+// how many sectors have a copy that is not found again, and how many groups such a parity
+#[derive(Clone, Copy, PartialEq, Eq, Debug)]
+struct Unfound {
+    sectors: usize,
+    groups: usize,
+}
+
+fn astray<L: Layout>(layout: &L) -> Unfound {
     let copies = layout.copies();
     let sectors = (0..layout.capacity())
         .filter(|&sector| (0..copies).any(|copy| !is_found(layout, datum(sector, copy))))
@@ -39,7 +45,7 @@ fn astray<L: Layout>(layout: &L) -> [usize; 2] {
     let groups = (0..layout.depth())
         .filter(|&group| layout.peers(group) > 0 && !is_found(layout, parity_of(group)))
         .count();
-    [sectors, groups]
+    Unfound { sectors, groups }
 }
 
 // How many members have a place whose owner was put elsewhere, with one place past each end, which nobody owns.
@@ -116,7 +122,13 @@ fn round_trips(rt: HostRuntime) -> Result<(), Fail> {
         far(6, 4, 1, 9),
     ] {
         let layout = Stock::from_label(&label)?;
-        assert_eq!(rt; astray(&layout), [0, 0]);
+        assert_eq!(rt;
+            astray(&layout),
+            Unfound {
+                sectors: 0,
+                groups: 0,
+            }
+        );
         assert_eq!(rt; misowned(&layout), 0);
         assert_eq!(rt; ungrouped(&layout), 0);
     }

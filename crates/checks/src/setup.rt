@@ -21,7 +21,8 @@ pub fn answered<T: Drop>(res: Result<T, Refused>) -> Answer {
     res.map(|_| ()).map_err(|refused| refused.refusal)
 }
 
-// The labels of the stock kinds: members, copies where there are more than one, chunk and depth.
+// The labels of the stock kinds: members, copies where there are more than one, chunk and depth. One for each kind, since the tests are
+// tables of such labels, and a kind at each would be no plainer.
 pub fn striped(members: u8, chunk: u32, depth: u64) -> Label {
     Label::stock(Kind::Striped, members, 1, chunk, depth)
 }
@@ -135,7 +136,7 @@ pub fn put<S: Shelf>(
     volume.write(sector, &pattern(sector, version))
 }
 
-// Whether a sector is read back as this version.
+// Whether a sector is read back as this version. The tour of the main program has these two lines too, by another formula.
 pub fn shows<S: Shelf>(volume: &mut Volume<S, Stock>, sector: u64, version: u64) -> bool {
     let mut content = zeros();
     volume.read(sector, &mut content).is_ok() && content == pattern(sector, version)
@@ -196,7 +197,7 @@ pub fn plain_move(heap: Global) -> Result<Volume<PlainShelf, Stock>, Fail> {
     Ok(wider(8)?.filled(PlainShelf::blank(heap, 4, 15)?, 4, 16)?)
 }
 
-// The same on a trial shelf.
+// The same on a trial shelf. Two functions: with one for both, every caller would have to say the size of its shelf.
 pub fn trial_move(heap: Global) -> Result<Volume<TrialShelf, Stock>, Fail> {
     Ok(wider(8)?.filled(TrialShelf::blank(heap, 4, 15)?, 4, 16)?)
 }
@@ -227,7 +228,7 @@ impl Draft {
             backup,
             armed,
         } = self;
-        if number < 1 || number > MOST_NUMBER || backup < 1 || backup > MOST_BACKUP {
+        if !(1..=MOST_NUMBER).contains(&number) || !(1..=MOST_BACKUP).contains(&backup) {
             return Err(Fail::new("no head has these numbers"));
         }
         Ok(Head {

@@ -23,7 +23,8 @@ pub struct Incident {
     pub kind: Kind,
 }
 
-// What becomes of the power at one operation.
+// What becomes of the power at one operation. Three words and no `Option` of two: the definitions of the schedule, which public clauses
+// name, have them.
 #[derive(Clone, Copy, PartialEq, Eq, Debug)]
 pub enum Power {
     Stays,
@@ -63,12 +64,9 @@ fn lose_one(shelf: &mut TrialShelf, incident: Incident, clock: u64)
     ensures losing { let a = shelf.old in shelf.new.controls.losing ≡ lost_by a.members incident clock a.controls.losing }
 {
     if incident.at == clock {
-        match incident.kind {
+        if let Kind::Lose(member) = incident.kind {
             // a shelf without that member has nothing to lose
-            Kind::Lose(member) => {
-                let _ = shelf.lose(member);
-            }
-            Kind::CutBefore | Kind::CutAfter => {}
+            let _ = shelf.lose(member);
         }
     }
 }

@@ -8,7 +8,7 @@ use sector::{SECTOR, Sector};
 use shelf::image::Image;
 use shelf::{Answer, Failure, Shelf};
 
-// Refuses a read or a write out of range.
+// Refuses a read or a write out of range, by what every shelf tells of itself: the shelf within tests so again, but in its operations.
 pub fn in_range<S: Shelf>(shelf: &S, member: u64, sector: u64, length: usize) -> Answer
     ensures { InRangeIs (S.Shelf.meaning shelf.now) member sector length result }
 {

@@ -1,4 +1,4 @@
-// What a progress says; an idle one has the label of no layout and no rows.
+// What a progress says; an idle one has the label of no layout and no rows, as its head has it: a label and numbers of zero, and not None.
 ghost use Rattle.std.specs.Prelude.{◌≡◌};
 ghost use Rattle.std.specs.Int.{from_bool};
 ghost use Rattle.head.specs.Heads.{phase_of, target_of, settled_of, kept_of};

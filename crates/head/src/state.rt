@@ -4,7 +4,8 @@ ghost use Rattle.std.specs.Prelude.{◌≤◌};
 use layout::label::Label;
 
 // Whether the volume moves, and how far it has come: the target's settled rows and the source's kept rows.
-// Two words of the subject rather than an `Option`: an idle volume lacks nothing.
+// Two words of the subject rather than an `Option`: an idle volume lacks nothing. The rows are two numbers, here and wherever they go
+// together: they are counted in rows of different layouts, and nearly every place is about one of the two.
 #[derive(Clone, Copy, PartialEq, Eq, Debug)]
 pub enum Progress {
     Idle,

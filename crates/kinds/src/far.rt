@@ -30,7 +30,7 @@ impl Far {
         ensures { MatchOption result (Gridded members chunk depth × Copied members copies × (copies ≤ depth / chunk) → ⊥) (λ l. ⟦<Far as Layout>⟧.named l ≡ stock_label kind.Far members copies chunk depth) }
     {
         let grid = Grid::new(members, chunk, depth)?;
-        // A test and not `then`: the closure would have to require what the test says, as the cells need it of their numbers.
+        // A test: in a closure of `then`, which was tried, what the cells need of their numbers stayed open.
         if grid.bears(copies) && copies <= grid.chunks {
             Some(Spread {
                 cells: FarCells { grid, copies },

@@ -29,7 +29,7 @@ impl Near {
         ensures { MatchOption result (Gridded members chunk depth × Copied members copies → ⊥) (λ l. ⟦<Near as Layout>⟧.named l ≡ stock_label kind.Near members copies chunk depth) }
     {
         let grid = Grid::new(members, chunk, depth)?;
-        // A test and not `then`: the closure would have to require what the test says, as the cells need it of their numbers.
+        // A test: in a closure of `then`, which was tried, what the cells need of their numbers stayed open.
         if grid.bears(copies) {
             Some(Spread {
                 cells: NearCells { grid, copies },

@@ -49,7 +49,7 @@ impl<'a, S: Image, L: Layout> Laid<'a, S, L> {
         }
     }
 
-    // Where a sector of the disk lives.
+    // Where a sector of the disk lives: by the disk, and not by the array's own answer, which is judged by it.
     fn home(&self, disk: &Disk, sector: u64) -> Home
         ensures { result ≡ home_in disk.now.phase (L.Layout.geometry self.now.source.now) (L.Layout.geometry self.now.target.now) disk.now.settled disk.now.kept sector }
     {
@@ -103,7 +103,7 @@ fn is_same_phase(one: Phase, other: Phase) -> bool
     }
 }
 
-// Whether a volume tells of itself what the disk has.
+// Whether a volume tells of itself what the disk has. Field by field, for the phase's sake.
 fn tells_same(told: &Told, disk: &Disk) -> bool
     ensures { result ≡ same_told told.now (shown disk.now) }
 {
@@ -131,9 +131,5 @@ pub fn strays<S: Image, L: Layout>(
         backup: NonZeroU32::new(backup)?,
     };
     let sectors = laid.stray_sectors(disk);
-    if tells_same(told, disk) {
-        Some(sectors)
-    } else {
-        Some(sectors + 1)
-    }
+    Some(sectors + u64::from(!tells_same(told, disk)))
 }

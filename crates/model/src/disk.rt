@@ -42,6 +42,7 @@ impl Disk {
     pub fn sector(&self, index: u64) -> Sector
         ensures { result ≡ padded (shown self.now) index }
     {
+        // A test, as the definition makes it: by `get` and `unwrap_or_else` the proof stayed open.
         if index < self.size() {
             self.sectors[index as usize]
         } else {
@@ -113,7 +114,7 @@ impl Disk {
         }
     }
 
-    // What a refused call makes of it: a grant of the row in hand is spent all the same.
+    // What a refused call makes of it: a grant of the row in hand is spent all the same. A match, as in `grant`.
     pub fn refuse(&mut self, request: &Request)
         ensures { SameDisk (refused request.now (shown self.old)) (shown self.new) }
     {
@@ -132,8 +133,8 @@ impl Disk {
     fn put(&mut self, index: u64, content: Sector)
         ensures { SameDisk (written index content (shown self.old)) (shown self.new) }
     {
-        if index < self.size() {
-            self.sectors[index as usize] = content;
+        if let Some(held) = self.sectors.get_mut(index as usize) {
+            *held = content;
         }
     }
 }

@@ -1,4 +1,5 @@
-// What a shelf shows of a volume's sectors, looked at without an operation.
+// What a shelf shows of a volume's sectors, looked at without an operation. Where the body and the slots lie is said here anew, and not
+// taken from the stages, which are judged by it.
 ghost use Rattle.std.specs.Prelude.{◌≡◌, ◌<◌, ◌≤◌, cond, nat_eq, MatchOption};
 ghost use Rattle.std.specs.Int.NonZero.{non_zero_u32_get};
 ghost use Rattle.std.specs.Str.{bytes_eq};
@@ -27,7 +28,7 @@ fn held_at<S: Image>(shelf: &S, at: Place) -> Option<Sector>
 fn holds_other<S: Image>(shelf: &S, at: Place, content: &Sector) -> bool
     ensures { result ≡ held_other (S.Shelf.meaning shelf.now) content.now at.0 at.1 }
 {
-    // A match: what a closure in `is_none_or` answers would want a clause of its own.
+    // A match: with a closure in `is_none_or` the proof did not close, as what it answers was not read off its body.
     shelf.is_present(at.0)
         && match held_at(shelf, at) {
             Some(held) => !is_equal(&held, content),

@@ -16,6 +16,7 @@ pub enum Request {
     Open,
 }
 
+// How a call was answered: three words of the law over runs, whose definitions name them; the refusal itself stands beside.
 #[derive(Clone, Copy)]
 pub enum Answered {
     Granted,

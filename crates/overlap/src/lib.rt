@@ -21,6 +21,9 @@ pub fn live_rows<L: Layout>(source: &L, size: u64) -> u64
     size.div_ceil(source.row_len())
 }
 
+// The layouts and the size go through these functions as arguments: the public ones are asked so, and a struct of the three would be made
+// anew in each.
+
 // The need of a target row: one more than the highest live source row that shares a place with it, parity places too, or 0.
 // So it is at most the number of live rows.
 pub fn need<Old: Layout, New: Layout>(source: &Old, target: &New, size: u64, row: u64) -> u64

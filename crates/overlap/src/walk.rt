@@ -114,7 +114,8 @@ impl Walk {
         first.max(self.settled_end())..end.min(self.size)
     }
 
-    // How many sectors stand in backup slots once the next source row is kept.
+    // How many sectors stand in backup slots once the next source row is kept. Not `window` of one more: there is none more than the
+    // greatest number, and the row's own end is exact there too.
     pub fn next_window(&self) -> u64
         ensures { result ≡ window_of self.now.source_len self.now.target_len self.now.settled self.now.size (self.now.kept + 1) }
     {

@@ -17,7 +17,8 @@ pub(crate) struct Extent {
 }
 
 impl Extent {
-    // The extent of so many members with so many sectors, if the limits allow it.
+    // The extent of so many members with so many sectors, if the limits allow it. A test and not `then`: the closure would have to require
+    // what the test says, as the extent needs it of its numbers.
     pub(crate) fn within(members: u64, sectors: u64) -> Option<Extent>
         ensures { MatchOption result (Within members sectors → ⊥) (λ e. Within members sectors × (e.members ≡ members) × (e.sectors ≡ sectors)) }
     {
@@ -30,7 +31,7 @@ impl Extent {
         }
     }
 
-    // The same, if a run of so many bytes has just so many images of it.
+    // The same, if a run of so many bytes has just so many images of it. That they are one or two is asked of the images' makers, here too.
     pub(crate) fn of(
         members: u64,
         sectors: u64,
@@ -60,7 +61,7 @@ impl Extent {
         (self.members * self.sectors) as usize
     }
 
-    // A member's sectors.
+    // A member's sectors. That it is a member is asked of each that goes over a column: it is an argument, and was tested before.
     pub(crate) fn column(self, member: u64) -> Column
         requires { member < self.members }
         ensures image { result.image ≡ self.members * self.sectors }

@@ -75,7 +75,7 @@ impl<const COUNT: u64> Images<COUNT> {
         self.extent.cell(member, sector, length)
     }
 
-    // Sector `at` of the run.
+    // Sector `at` of the run. It and `store` ask that the sector is one of the run: it is an argument, which no field can bound.
     pub(crate) fn sector_at(&self, at: usize) -> &Sector
         requires { at * 512 + 512 ≤ vec_len self.now.bytes }
         ensures { result.now ≡ sector_at self.now.bytes.items at }

@@ -65,7 +65,7 @@ pub trait Shelf {
     fn flush(&mut self, member: u64) -> Answer
         ensures { Flushed member (meaning self.old) (meaning self.new) result };
 
-    // Turns the shelf on again and says whether it is on.
+    // Turns the shelf on again and says whether it is on. A yes or no: it names no member that could be absent, and nothing out of range.
     fn restart(&mut self) -> bool
         ensures { Restarts (meaning self.old) (meaning self.new) result };
 

@@ -6,6 +6,8 @@ use layout::place::Place;
 use sector::{Sector, fold, zeros};
 use shelf::Shelf;
 
+// A layout, a group of it and a sector go through these functions as arguments: the layout is one of the array's own, and a struct would
+// have to borrow it from the array beside the array.
 impl<L: Layout> Array<L> {
     // A sector that every member holds, while there is a member to read it from.
     pub(crate) fn read_held<S: Shelf>(

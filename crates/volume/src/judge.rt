@@ -23,11 +23,11 @@ fn is_in_limits<S: Shelf>(shelf: &S) -> bool
 {
     let members = shelf.members();
     let sectors = shelf.sectors();
-    (members >= LEAST_MEMBERS && members <= MOST_MEMBERS)
-        && (sectors >= 1 && sectors <= MOST_SECTORS)
+    (LEAST_MEMBERS..=MOST_MEMBERS).contains(&members) && (1..=MOST_SECTORS).contains(&sectors)
 }
 
-// Whether a layout, the slots before it and a volume of this size fit the shelf.
+// Whether a layout, the slots before it and a volume of this size fit the shelf. Slots and size are two numbers: create has no head yet
+// that holds them.
 pub fn fits<S: Shelf, L: Layout>(shelf: &S, layout: &L, backup: u32, size: u64) -> bool
     ensures { result ≡ room (S.meaning shelf.now) (L.geometry layout.now) backup size }
 {
@@ -79,8 +79,7 @@ impl<S: Shelf, L: Layout> Volume<S, L> {
         ensures slots { OnOk result ((1 ≤ backup) × (backup ≤ 4096)) }
     {
         let source = &self.array.source;
-        if backup < 1
-            || backup > MOST_BACKUP
+        if !(1..=MOST_BACKUP).contains(&backup)
             || !has_true_label(source)
             || !fits(&self.shelf, source, backup, size)
         {

@@ -2,7 +2,7 @@
 // docs/CALLS.md has the calls and their refusals, docs/MOVE.md the move.
 #![tactic(auto)]
 
-ghost use Rattle.std.specs.Prelude.{◌≡◌, length, IfOk, OnErr, OnOk};
+ghost use Rattle.std.specs.Prelude.{◌≡◌, ◌≤◌, length, IfOk, OnErr, OnOk};
 ghost use Rattle.stage.specs.declared.phase.Phase.TheVariants.{Before};
 ghost use Rattle.model.specs.Verdicts.{HandedBack, InUse, RefusedBy, ShutBy, ShutsBy, begin_verdict, copy_verdict, create_verdict, emptied, finish_verdict, is_hand, keep_verdict, read_verdict, settle_verdict, write_verdict};
 ghost use Rattle.volume.specs.Volumes.{OnlyHand, distance_in, hand_of, known, phase_of, row_of, shelf_of, source_of, target_of};
@@ -38,7 +38,8 @@ pub struct Finished {
 }
 
 impl<S: Shelf, L: Layout> Volume<S, L> {
-    // A new volume of zeros, laid out by the source. Where it is refused the volume is shut, and open can take its shelf.
+    // A new volume of zeros, laid out by the source. Where it is refused the volume is shut, and open can take its shelf: so it stands beside
+    // the result, since a refusal must not lose the shelf.
     pub fn create(
         shelf: S,
         source: L,
@@ -55,7 +56,7 @@ impl<S: Shelf, L: Layout> Volume<S, L> {
         (volume, result)
     }
 
-    // The volume that a shelf holds, once power is back. An idle head needs the source only.
+    // The volume that a shelf holds, once power is back. An idle head needs the source only. It stands beside the result, as in create.
     pub fn open(shelf: S, source: L, target: L) -> (Volume<S, L>, Result<(), Refused>)
         ensures { ShutBy (phase_of result.0) result.1 }
     {
@@ -233,14 +234,7 @@ impl<S: Shelf, L: Layout> Volume<S, L> {
         ensures source { source_of result ≡ source }
         ensures target { target_of result ≡ target }
     {
-        let head = Head {
-            number: 1,
-            source: Label::ZERO,
-            progress: Progress::Idle,
-            size: 0,
-            backup: 1,
-            armed: None,
-        };
+        let head = first_head(Label::ZERO, 0, 1);
         Volume {
             shelf,
             array: Array {
@@ -272,14 +266,7 @@ impl<S: Shelf, L: Layout> Volume<S, L> {
         ensures phase { OnOk result (phase_of self.new ≡ Before) }
     {
         self.judge_create(backup, size)?;
-        let head = Head {
-            number: 1,
-            source: self.array.source.label(),
-            progress: Progress::Idle,
-            size,
-            backup,
-            armed: None,
-        };
+        let head = first_head(self.array.source.label(), size, backup);
         self.array.head = head;
         self.array.phase = Phase::Before;
         self.array.clear(&mut self.shelf)?;
@@ -373,6 +360,21 @@ impl<S: Shelf, L: Layout> Volume<S, L> {
             self.hand = None;
         }
         matches
+    }
+}
+
+// The first checkpoint of a volume.
+fn first_head(source: Label, size: u64, backup: u32) -> Head
+    requires { (1 ≤ backup) × (backup ≤ 4096) }
+    ensures { (result.source ≡ source) × ((result.size ≡ size) × (result.backup ≡ backup)) }
+{
+    Head {
+        number: 1,
+        source,
+        progress: Progress::Idle,
+        size,
+        backup,
+        armed: None,
     }
 }
 

@@ -18,6 +18,7 @@ use tour::{Plan, Tally, Tour};
 
 const SECTORS: u64 = 48;
 
+// A layout of each of the two kinds that the program moves most: a kind at each call would be no plainer.
 fn striped(members: u8, chunk: u32, depth: u64) -> Result<Stock, Refusal> {
     Stock::from_label(&Label::stock(Kind::Striped, members, 1, chunk, depth))
 }
