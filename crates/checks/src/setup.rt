@@ -136,7 +136,8 @@ pub fn put<S: Shelf>(
     volume.write(sector, &pattern(sector, version))
 }
 
-// Whether a sector is read back as this version. The tour of the main program has these two lines too, by another formula.
+// Whether a sector is read back as this version. The tour of the main program has these two lines too, by
+// another formula; for them alone a crate would have to stand between.
 pub fn shows<S: Shelf>(volume: &mut Volume<S, Stock>, sector: u64, version: u64) -> bool {
     let mut content = zeros();
     volume.read(sector, &mut content).is_ok() && content == pattern(sector, version)

@@ -1,2 +1,3 @@
 pub mod Zeros
 pub mod Codecs
+pub mod Arming

@@ -22,7 +22,7 @@ impl<'a> HeadSector<'a> {
     pub fn new(bytes: &'a [u8]) -> Option<HeadSector<'a>>
         ensures { MatchOption result (Accepted bytes.now → ⊥) (λ s. s.bytes.now ≡ bytes.now) }
     {
-        // A match: a closure that makes the struct would have to require again what the test says.
+        // A match: a closure that makes the struct would have to require in a clause of its own what the test says.
         match <&Sector>::try_from(bytes) {
             Ok(bytes) if is_accepted(bytes) => Some(HeadSector { bytes }),
             _ => None,

@@ -64,10 +64,6 @@ impl HeadSector<'_> {
         ensures armed { armed_of result ≡ slice_index self.now.bytes.now 4 }
         ensures logged { NumberAt 80 (logged_of result) self.now.bytes.now }
     {
-        // A test: with `then` the proof of what an unarmed head has there stayed open.
-        if self.bytes[ARMED_AT] == 0 {
-            return None;
-        }
-        Some(field_at(self.bytes, LOGGED_AT))
+        (self.bytes[ARMED_AT] != 0).then(|| field_at(self.bytes, LOGGED_AT))
     }
 }

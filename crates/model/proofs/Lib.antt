@@ -2,3 +2,4 @@ pub mod Disks
 pub mod Firsts
 pub mod Looking
 pub mod Misplaced
+pub mod Sectors

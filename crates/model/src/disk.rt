@@ -42,12 +42,10 @@ impl Disk {
     pub fn sector(&self, index: u64) -> Sector
         ensures { result ≡ padded (shown self.now) index }
     {
-        // A test, as the definition makes it: by `get` and `unwrap_or_else` the proof stayed open.
-        if index < self.size() {
-            self.sectors[index as usize]
-        } else {
-            zeros()
-        }
+        self.sectors
+            .get(index as usize)
+            .copied()
+            .unwrap_or_else(zeros)
     }
 
     pub fn phase(&self) -> Phase

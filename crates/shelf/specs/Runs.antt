@@ -27,10 +27,7 @@ pub record Within (members sectors : ℕ) : Type 0 where
 
 -- the same, and a run of just so many images
 pub record RunOf (members sectors images bytes : ℕ) : Type 0 where
-  pub least : 2 ≤ members
-  pub few : members ≤ 16
-  pub some : 1 ≤ sectors
-  pub short : sectors ≤ 33554432
+  pub within : Within members sectors
   pub whole : bytes ≡ members * sectors * images * 512
 
 -- done if it is such a run, else out of limits

@@ -17,8 +17,8 @@ pub(crate) struct Extent {
 }
 
 impl Extent {
-    // The extent of so many members with so many sectors, if the limits allow it. A test and not `then`: the closure would have to require
-    // what the test says, as the extent needs it of its numbers.
+    // The extent of so many members with so many sectors, if the limits allow it. A test: as `then` it is refused unless the closure requires in
+    // a clause of its own what the test says, which is no plainer.
     pub(crate) fn within(members: u64, sectors: u64) -> Option<Extent>
         ensures { MatchOption result (Within members sectors → ⊥) (λ e. Within members sectors × (e.members ≡ members) × (e.sectors ≡ sectors)) }
     {
@@ -31,7 +31,8 @@ impl Extent {
         }
     }
 
-    // The same, if a run of so many bytes has just so many images of it. That they are one or two is asked of the images' makers, here too.
+    // The same, if a run of so many bytes has just so many images of it. It asks, as `bytes` does, that they are at most two: where they are made
+    // their number is a const parameter, which has no bound of its own.
     pub(crate) fn of(
         members: u64,
         sectors: u64,
@@ -61,7 +62,8 @@ impl Extent {
         (self.members * self.sectors) as usize
     }
 
-    // A member's sectors. That it is a member is asked of each that goes over a column: it is an argument, and was tested before.
+    // A member's sectors. It asks that this is one, as what goes over a column does: the number is an argument, which the callers have tested or
+    // counted.
     pub(crate) fn column(self, member: u64) -> Column
         requires { member < self.members }
         ensures image { result.image ≡ self.members * self.sectors }

@@ -2,7 +2,8 @@
 // docs/CALLS.md has the calls and their refusals, docs/MOVE.md the move.
 #![tactic(auto)]
 
-ghost use Rattle.std.specs.Prelude.{◌≡◌, ◌≤◌, length, IfOk, OnErr, OnOk};
+ghost use Rattle.std.specs.Prelude.{◌≡◌, ◌≤◌, length, IfOk, None, OnErr, OnOk};
+ghost use Rattle.head.specs.declared.state.Progress.TheVariants.{Idle};
 ghost use Rattle.stage.specs.declared.phase.Phase.TheVariants.{Before};
 ghost use Rattle.model.specs.Verdicts.{HandedBack, InUse, RefusedBy, ShutBy, ShutsBy, begin_verdict, copy_verdict, create_verdict, emptied, finish_verdict, is_hand, keep_verdict, read_verdict, settle_verdict, write_verdict};
 ghost use Rattle.volume.specs.Volumes.{OnlyHand, distance_in, hand_of, known, phase_of, row_of, shelf_of, source_of, target_of};
@@ -366,7 +367,9 @@ impl<S: Shelf, L: Layout> Volume<S, L> {
 // The first checkpoint of a volume.
 fn first_head(source: Label, size: u64, backup: u32) -> Head
     requires { (1 ≤ backup) × (backup ≤ 4096) }
-    ensures { (result.source ≡ source) × ((result.size ≡ size) × (result.backup ≡ backup)) }
+    ensures first { result.number ≡ 1 }
+    ensures asked { (result.source ≡ source) × (result.size ≡ size) × (result.backup ≡ backup) }
+    ensures idle { (result.progress ≡ Idle) × (result.armed ≡ None) }
 {
     Head {
         number: 1,

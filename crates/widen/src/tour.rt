@@ -48,7 +48,8 @@ pub struct Tour<S> {
     pub tally: Tally,
 }
 
-// Whether a sector is read back as this version, by the tour's own pattern. The tests have these two lines too, by another formula.
+// Whether a sector is read back as this version, by the tour's own pattern. The tests have these two lines too, by another formula; for
+// them alone a crate would have to stand between.
 fn shows<S: Shelf>(volume: &mut Volume<S, Stock>, sector: u64, version: u64) -> bool {
     let mut content = zeros();
     volume.read(sector, &mut content).is_ok() && content == pattern(sector, version)
