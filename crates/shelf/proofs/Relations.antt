@@ -1,8 +1,8 @@
 -- The laws of the relation.
-use Rattle.std.proofs.Common.{◌≡◌, ℕ, ◌<◌, Bool, true, false, ◌⊎◌, List, length, sym, refl, ap, ◌∙◌, subst, inl, inr, arith, Ok, Err}
-use Rattle.std.proofs.lemmas.Bool.{both_ways, cases_Bool, cases_eq, cases_lt}
+use Rattle.std.proofs.Common.{◌≡◌, ℕ, ◌<◌, Bool, true, false, eqb, ◌⊎◌, List, length, sym, refl, ap, ◌∙◌, subst, inl, inr, arith, Ok, Err}
+use Rattle.std.proofs.lemmas.Bool.{both_ways, cases_Bool, cases_eq, cases_lt, cond-false, cond-true, eq-eqb, ne_eqb}
 use Rattle.shelf.specs.Meaning.{FlushIn, Flushed, Gives, Kept, Meaning, OneContent, Ranged, ReadIn, Reads, Restarts, Sets, Settles, Tells, Untouched, WriteIn, Writes}
-use Rattle.shelf.specs.Relation.{Allows, Both, Keeps, Repeats, Stays, cut}
+use Rattle.shelf.specs.Relation.{Allows, Both, Keeps, Repeats, Stays, brought_out, cut, lost, member_settled, partly_out, picked, some_settled, written, written_amid}
 use Rattle.shelf.specs.Answers.{Answer, done}
 use Rattle.shelf.specs.declared.Failure.TheVariants.{Absent, Off, OutOfRange}
 
@@ -223,6 +223,80 @@ kept_cut m a = record { members = refl; sectors = refl; off_stays = λ e. refl; 
 settles_cut : (a : Meaning) → Settles a (cut a)
 settles_cut a = record { settled = λ k s. inl refl }
 
+-- one of the two contents that were picked from
+picked_one : (pick : ℕ → ℕ → Bool) (first second : ℕ → ℕ → List ℕ) (k s : ℕ) → (picked pick first second k s ≡ first k s) ⊎ (picked pick first second k s ≡ second k s)
+picked_one pick first second k s = elim (cases_Bool (pick k s)) [ inl taken ↦ inr (cond-true (pick k s) _ _ taken) | inr left ↦ inl (cond-false (pick k s) _ _ left) ]
+
+-- what settles where the current contents become others
+settles_amid : (before after : ℕ → ℕ → Bool) (a b : Meaning) → ((k s : ℕ) → b.settled k s ≡ picked after (picked before a.settled a.current) b.current k s) → Settles a b
+settles_amid before after a b e = record {
+  settled = λ k s. elim (picked_one after (picked before a.settled a.current) b.current k s) [
+    | inr late ↦ inr (inr (e k s ∙ late))
+    | inl early ↦ elim (picked_one before a.settled a.current k s) [ inl same ↦ inl (e k s ∙ (early ∙ same)) | inr now ↦ inr (inl (e k s ∙ (early ∙ now))) ]
+  ];
+}
+
+-- the sector that is written, and the others
+written_here : (m s : ℕ) (content : List ℕ) (a : Meaning) → (written m s content a).current m s ≡ content
+written_here m s content a = cond-true (eqb m m) _ _ (eq-eqb m m refl) ∙ cond-true (eqb s s) _ _ (eq-eqb s s refl)
+
+written_there : (m t : ℕ) (content : List ℕ) (a : Meaning) (k s : ℕ) → ((k ≡ m) × (s ≡ t) → ⊥) → (written m t content a).current k s ≡ a.current k s
+written_there m t content a k s apart = elim (cases_eq k m) [
+  | inr other ↦ cond-false (eqb k m) _ _ (ne_eqb k m other)
+  | inl member ↦ elim (cases_eq s t) [
+    | inl sector ↦ absurd (apart (member, sector))
+    | inr other ↦ cond-true (eqb k m) _ _ (eq-eqb k m member) ∙ cond-false (eqb s t) _ _ (ne_eqb s t other)
+  ]
+]
+
+-- nothing happens to members and power
+kept_same : (m : ℕ) (a b : Meaning) → b.members ≡ a.members → b.sectors ≡ a.sectors → b.on ≡ a.on → b.present ≡ a.present → Kept m a b
+kept_same m a b e f g h = record { members = e; sectors = f; off_stays = λ off. g ∙ off; absent_stays = λ gone. ap (λ p. p m) h ∙ gone; others = λ k ne. ap (λ p. p k) h }
+
+-- or the power goes as well
+kept_off : (m : ℕ) (a b : Meaning) → Kept m a b → Kept m a (cut b)
+kept_off m a b f = record { members = f.members; sectors = f.sectors; off_stays = λ e. refl; absent_stays = f.absent_stays; others = f.others }
+
+-- or a member is lost
+gone_here : (m : ℕ) (a : Meaning) → (lost m a).present m ≡ false
+gone_here m a = cond-true (eqb m m) _ _ (eq-eqb m m refl)
+
+kept_lost : (m : ℕ) (a : Meaning) → Kept m a (lost m a)
+kept_lost m a = record { members = refl; sectors = refl; off_stays = λ e. e; absent_stays = λ e. gone_here m a; others = λ k ne. cond-false (eqb k m) _ _ (ne_eqb k m ne) }
+
+settles_lost : (m : ℕ) (a : Meaning) → Settles a (lost m a)
+settles_lost m a = record { settled = λ k s. inl refl }
+
+-- a sector of a present member that is brought out, and one of an absent one
+out_here : (pick : ℕ → ℕ → Bool) (a : Meaning) (k s : ℕ) → a.present k ≡ true → OneContent a (brought_out pick a) k s
+out_here pick a k s there =
+    let settled : (brought_out pick a).settled k s ≡ picked pick a.settled a.current k s = cond-true (a.present k) _ _ there in
+    let current : (brought_out pick a).current k s ≡ picked pick a.settled a.current k s = cond-true (a.present k) _ _ there in
+    record {
+      both = settled ∙ sym current;
+      one = elim (picked_one pick a.settled a.current k s) [ inl e ↦ inl (current ∙ e) | inr e ↦ inr (current ∙ e) ];
+    }
+
+out_absent : (pick : ℕ → ℕ → Bool) (a : Meaning) (k s : ℕ) → a.present k ≡ false → Untouched a (brought_out pick a) k s
+out_absent pick a k s gone = record { settled = cond-false (a.present k) _ _ gone; current = cond-false (a.present k) _ _ gone }
+
+-- a sector that is partly brought out is as it was, or as one that is brought out
+part_or : (some pick : ℕ → ℕ → Bool) (a : Meaning) (k s : ℕ) → Untouched a (partly_out some pick a) k s ⊎ Untouched (brought_out pick a) (partly_out some pick a) k s
+part_or some pick a k s = elim (cases_Bool (some k s)) [
+  | inl taken ↦ inr (record { settled = cond-true (some k s) _ _ taken; current = cond-true (some k s) _ _ taken })
+  | inr left ↦ inl (record { settled = cond-false (some k s) _ _ left; current = cond-false (some k s) _ _ left })
+]
+
+part_absent : (some pick : ℕ → ℕ → Bool) (a : Meaning) (k s : ℕ) → a.present k ≡ false → Untouched a (partly_out some pick a) k s
+part_absent some pick a k s gone = elim (part_or some pick a k s) [ inl e ↦ e | inr e ↦ untouched_twice a (brought_out pick a) (partly_out some pick a) k s (out_absent pick a k s gone) e ]
+
+part_here : (some pick : ℕ → ℕ → Bool) (a : Meaning) (k s : ℕ) → a.present k ≡ true → OneContent a (partly_out some pick a) k s ⊎ Untouched a (partly_out some pick a) k s
+part_here some pick a k s there = elim (part_or some pick a k s) [
+  | inl e ↦ inr e
+  | inr e ↦ (let o = out_here pick a k s there in
+      inl (record { both = e.settled ∙ (o.both ∙ sym e.current); one = elim o.one [ inl w ↦ inl (e.current ∙ w) | inr w ↦ inr (e.current ∙ w) ] }))
+]
+
 pub allows : Allows
 allows = record {
   read = λ m s old a q. record {
@@ -249,4 +323,94 @@ allows = record {
   read_refused = λ m s old a no. record { inside = λ q. absurd (no q); outside = λ n. (refl, refl, refl) };
   write_refused = λ m s content a no. record { inside = λ q. absurd (no q); outside = λ n. (refl, refl) };
   flush_refused = λ m a no. record { inside = λ q. absurd (no q); outside = λ n. (refl, refl) };
+  read_done = λ pick m s old a q on there. record {
+    inside = λ h. record {
+      kept = kept_same m a (some_settled pick a) refl refl refl refl;
+      settles = settles_amid pick (λ k i. false) a (some_settled pick a) (λ k i. refl);
+      current = λ k i. refl;
+      tells = (on, there);
+      gives = refl;
+    };
+    outside = λ no. absurd (no q);
+  };
+  write_done = λ before after m s content a q on there. record {
+    inside = λ h. record {
+      kept = kept_same m a (written_amid before after m s content a) refl refl refl refl;
+      settles = settles_amid before after a (written_amid before after m s content a) (λ k i. refl);
+      elsewhere = written_there m s content a;
+      tells = (on, there);
+      sets = written_here m s content a;
+    };
+    outside = λ no. absurd (no q);
+  };
+  read_cut = λ pick m s old a q. record {
+    inside = λ h. record {
+      kept = kept_off m a (some_settled pick a) (kept_same m a (some_settled pick a) refl refl refl refl);
+      settles = settles_amid pick (λ k i. false) a (cut (some_settled pick a)) (λ k i. refl);
+      current = λ k i. refl;
+      tells = refl;
+      gives = refl;
+    };
+    outside = λ no. absurd (no q);
+  };
+  write_cut = λ before after m s content a q. record {
+    inside = λ h. record {
+      kept = kept_off m a (written_amid before after m s content a) (kept_same m a (written_amid before after m s content a) refl refl refl refl);
+      settles = settles_amid before after a (cut (written_amid before after m s content a)) (λ k i. refl);
+      elsewhere = written_there m s content a;
+      tells = refl;
+      sets = inr (written_here m s content a);
+    };
+    outside = λ no. absurd (no q);
+  };
+  flush_done = λ pick m a q on there. record {
+    inside = λ h. record {
+      kept = kept_same m a (member_settled m (some_settled pick a)) refl refl refl refl;
+      settles = settles_amid pick (λ k i. eqb k m) a (member_settled m (some_settled pick a)) (λ k i. refl);
+      current = λ k i. refl;
+      tells = (on, there);
+      flushes = λ i. cond-true (eqb m m) _ _ (eq-eqb m m refl);
+    };
+    outside = λ no. absurd (no q);
+  };
+  flush_cut = λ pick m a q. record {
+    inside = λ h. record {
+      kept = kept_off m a (some_settled pick a) (kept_same m a (some_settled pick a) refl refl refl refl);
+      settles = settles_amid pick (λ k i. false) a (cut (some_settled pick a)) (λ k i. refl);
+      current = λ k i. refl;
+      tells = refl;
+      flushes = tt;
+    };
+    outside = λ no. absurd (no q);
+  };
+  read_absent = λ m s old a q on. record {
+    inside = λ h. record { kept = kept_lost m a; settles = settles_lost m a; current = λ k i. refl; tells = (on, gone_here m a); gives = refl };
+    outside = λ no. absurd (no q);
+  };
+  write_absent = λ m s content a q on. record {
+    inside = λ h. record { kept = kept_lost m a; settles = settles_lost m a; elsewhere = λ k i apart. refl; tells = (on, gone_here m a); sets = refl };
+    outside = λ no. absurd (no q);
+  };
+  flush_absent = λ m a q on. record {
+    inside = λ h. record { kept = kept_lost m a; settles = settles_lost m a; current = λ k i. refl; tells = (on, gone_here m a); flushes = tt };
+    outside = λ no. absurd (no q);
+  };
+  restart_on = λ pick a. record {
+    members = refl;
+    sectors = refl;
+    answer = refl;
+    present = λ k. refl;
+    absent = out_absent pick a;
+    on = λ on. out_here pick a;
+    off = λ off. absurd (both_ways true off refl);
+  };
+  restart_off = λ some pick a. record {
+    members = refl;
+    sectors = refl;
+    answer = refl;
+    present = λ k. refl;
+    absent = part_absent some pick a;
+    on = λ on. absurd (both_ways false refl on);
+    off = λ off. part_here some pick a;
+  };
 }

@@ -1,5 +1,5 @@
 -- What the relation of a shelf's operations amounts to.
-use Rattle.std.specs.Prelude.{◌≡◌, ℕ, ◌<◌, Bool, false, List, length, ◌≢◌, Err}
+use Rattle.std.specs.Prelude.{◌≡◌, ℕ, ◌<◌, Bool, true, false, cond, List, length, ◌≢◌, ◌==◌, Err}
 use Rattle.shelf.specs.Meaning.{Flushed, Meaning, Ranged, Reads, Restarts, Writes}
 use Rattle.shelf.specs.Answers.{Answer, done}
 use Rattle.shelf.specs.declared.Failure.TheVariants.{Absent, Off, OutOfRange}
@@ -37,7 +37,63 @@ pub record Keeps : Type 0 where
 abbrev pub cut : Meaning → Meaning
 cut a = record { members = a.members; sectors = a.sectors; on = false; present = a.present; settled = a.settled; current = a.current }
 
--- Weak enough: from every meaning each operation has an outcome, and a shelf that is always off keeps the rules.
+-- for each sector one of two contents: the second where `pick` says yes
+abbrev pub picked : (ℕ → ℕ → Bool) → (ℕ → ℕ → List ℕ) → (ℕ → ℕ → List ℕ) → ℕ → ℕ → List ℕ
+picked pick first second k s = cond (pick k s) (second k s) (first k s)
+
+-- some sectors settle, on any members
+abbrev pub some_settled : (ℕ → ℕ → Bool) → Meaning → Meaning
+some_settled pick a = record { members = a.members; sectors = a.sectors; on = a.on; present = a.present; settled = picked pick a.settled a.current; current = a.current }
+
+-- one sector's current content is replaced
+abbrev pub written : ℕ → ℕ → List ℕ → Meaning → Meaning
+written m t content a = record {
+  members = a.members;
+  sectors = a.sectors;
+  on = a.on;
+  present = a.present;
+  settled = a.settled;
+  current = λ k s. cond (k == m) (cond (s == t) content (a.current k s)) (a.current k s);
+}
+
+-- the same, while some sectors settle before it and some after
+abbrev pub written_amid : (before after : ℕ → ℕ → Bool) → ℕ → ℕ → List ℕ → Meaning → Meaning
+written_amid before after m t content a = some_settled after (written m t content (some_settled before a))
+
+-- every sector of one member settles
+abbrev pub member_settled : ℕ → Meaning → Meaning
+member_settled m a = some_settled (λ k s. k == m) a
+
+-- one member is gone
+abbrev pub lost : ℕ → Meaning → Meaning
+lost m a = record { members = a.members; sectors = a.sectors; on = a.on; present = λ k. cond (k == m) false (a.present k); settled = a.settled; current = a.current }
+
+-- The power comes back: each sector of a present member has one content, the current one where `pick` says yes, else the settled one.
+abbrev pub brought_out : (ℕ → ℕ → Bool) → Meaning → Meaning
+brought_out pick a = record {
+  members = a.members;
+  sectors = a.sectors;
+  on = true;
+  present = a.present;
+  settled = λ k s. cond (a.present k) (picked pick a.settled a.current k s) (a.settled k s);
+  current = λ k s. cond (a.present k) (picked pick a.settled a.current k s) (a.current k s);
+}
+
+-- the same for some sectors only, and the power stays away
+abbrev pub partly_out : (some pick : ℕ → ℕ → Bool) → Meaning → Meaning
+partly_out some pick a = record {
+  members = a.members;
+  sectors = a.sectors;
+  on = false;
+  present = a.present;
+  settled = picked some a.settled (brought_out pick a).settled;
+  current = picked some a.current (brought_out pick a).current;
+}
+
+-- Weak enough. From every meaning each operation has an outcome, and a shelf that is always off keeps the rules. Where the power is on and the member
+-- there, each operation may be done. It may be cut from every meaning; a write that is cut may have set its sector. Both ways any sectors may settle.
+-- Where the power is on, the member may be found absent with nothing else changed. A restart may bring out either content of each sector, and may fail
+-- when it has done so for some.
 pub record Allows : Type 0 where
   pub read : (m s : ℕ) (old : List ℕ) (a : Meaning) → Ranged a m s (length old) → Reads m s old old a (cut a) (Err Off)
   pub write : (m s : ℕ) (content : List ℕ) (a : Meaning) → Ranged a m s (length content) → Writes m s content a (cut a) (Err Off)
@@ -46,3 +102,18 @@ pub record Allows : Type 0 where
   pub read_refused : (m s : ℕ) (old : List ℕ) (a : Meaning) → (Ranged a m s (length old) → ⊥) → Reads m s old old a a (Err OutOfRange)
   pub write_refused : (m s : ℕ) (content : List ℕ) (a : Meaning) → (Ranged a m s (length content) → ⊥) → Writes m s content a a (Err OutOfRange)
   pub flush_refused : (m : ℕ) (a : Meaning) → (m < a.members → ⊥) → Flushed m a a (Err OutOfRange)
+  pub read_done : (pick : ℕ → ℕ → Bool) (m s : ℕ) (old : List ℕ) (a : Meaning) → Ranged a m s (length old) → a.on ≡ true → a.present m ≡ true
+      → Reads m s old (a.current m s) a (some_settled pick a) done
+  pub write_done : (before after : ℕ → ℕ → Bool) (m s : ℕ) (content : List ℕ) (a : Meaning) → Ranged a m s (length content) → a.on ≡ true → a.present m ≡ true
+      → Writes m s content a (written_amid before after m s content a) done
+  pub read_cut : (pick : ℕ → ℕ → Bool) (m s : ℕ) (old : List ℕ) (a : Meaning) → Ranged a m s (length old) → Reads m s old old a (cut (some_settled pick a)) (Err Off)
+  pub write_cut : (before after : ℕ → ℕ → Bool) (m s : ℕ) (content : List ℕ) (a : Meaning) → Ranged a m s (length content)
+      → Writes m s content a (cut (written_amid before after m s content a)) (Err Off)
+  pub flush_done : (pick : ℕ → ℕ → Bool) (m : ℕ) (a : Meaning) → m < a.members → a.on ≡ true → a.present m ≡ true
+      → Flushed m a (member_settled m (some_settled pick a)) done
+  pub flush_cut : (pick : ℕ → ℕ → Bool) (m : ℕ) (a : Meaning) → m < a.members → Flushed m a (cut (some_settled pick a)) (Err Off)
+  pub read_absent : (m s : ℕ) (old : List ℕ) (a : Meaning) → Ranged a m s (length old) → a.on ≡ true → Reads m s old old a (lost m a) (Err Absent)
+  pub write_absent : (m s : ℕ) (content : List ℕ) (a : Meaning) → Ranged a m s (length content) → a.on ≡ true → Writes m s content a (lost m a) (Err Absent)
+  pub flush_absent : (m : ℕ) (a : Meaning) → m < a.members → a.on ≡ true → Flushed m a (lost m a) (Err Absent)
+  pub restart_on : (pick : ℕ → ℕ → Bool) (a : Meaning) → Restarts a (brought_out pick a) true
+  pub restart_off : (some pick : ℕ → ℕ → Bool) (a : Meaning) → Restarts a (partly_out some pick a) false

@@ -72,7 +72,8 @@ pub trait Shelf {
     ghost inside: { (x : Self) (k : ℕ) → (meaning x).present k ≡ true → k < (meaning x).members };
 }
 
-// The rules of a shelf are closed under repetition, strong enough that nothing done is forgotten, and weak enough that the power may go at any operation.
+// The rules of a shelf are closed under repetition, strong enough that nothing done is forgotten, and weak enough that an operation may be done, be cut or
+// find its member gone, that any sectors may settle meanwhile, and that a restart may bring out either content of each sector.
 pub fn relation_stands()
     ensures repeated { Repeats }
     ensures kept { Keeps }
