@@ -1,5 +1,6 @@
 pub mod Contents
 pub mod Disks
+pub mod Effects
 pub mod Histories
 pub mod Knowing
 pub mod Looks

@@ -1,16 +1,22 @@
--- What open answers to the head that leads.
-use Rattle.std.specs.Prelude.{ℕ, ◌+◌, ◌-◌, ◌*◌, Bool, true, false, not, ◌&&◌, [], ◌∷◌, Some, None, Option, ◌==◌, nat_le, nat_lt}
+-- What open finds on a shelf, and what it answers to the head that leads.
+use Rattle.std.specs.Prelude.{◌≡◌, ℕ, ◌+◌, ◌-◌, ◌*◌, Bool, true, false, not, ◌&&◌, ◌⊎◌, [], ◌∷◌, Some, None, Ok, Err, Option, Result, ◌==◌, nat_le, nat_lt}
+use Rattle.answer.specs.declared.Operation.TheVariants.{Restart, Read}
+use Rattle.answer.specs.declared.Refused.{Refused}
 use Rattle.answer.specs.declared.Refusal.{Refusal}
-use Rattle.answer.specs.declared.Refusal.TheVariants.{LabelsDiffer, HeadMisfit, MembersLost, NumbersSpent}
+use Rattle.answer.specs.declared.Refusal.TheVariants.{NoHead, LabelsDiffer, HeadMisfit, MembersLost, PowerLost, NumbersSpent}
 use Rattle.layout.specs.Geometry.{Geometry}
 use Rattle.layout.specs.declared.label.Label.{Label}
 use Rattle.head.specs.declared.state.Head.{Head}
 use Rattle.head.specs.declared.state.Progress.{Progress}
 use Rattle.head.specs.declared.state.Progress.TheVariants.{Idle, Moving}
 use Rattle.overlap.specs.Homes.{window_of}
-use Rattle.shelf.specs.Meaning.{Meaning}
+use Rattle.shelf.specs.Meaning.{Meaning, Restarts}
 use Rattle.stage.specs.Crew.{borne}
-use Rattle.model.specs.Verdicts.{first_refusal, fits}
+use Rattle.stage.specs.Done.{OnSector}
+use Rattle.stage.specs.Ends.{Cut, Names}
+use Rattle.stage.specs.Heads.{LedBelow, Looked}
+use Rattle.stage.specs.May.{May, nothing}
+use Rattle.model.specs.Verdicts.{RefusedBy, first_refusal, fits}
 
 abbrev pub same_label : Label → Label → Bool
 same_label l k = (l.kind == k.kind && (l.members == k.members && l.copies == k.copies))
@@ -58,3 +64,48 @@ head_verdict h a sl tl s t = first_refusal (
     ∷ (not (progress_borne h.progress a s t), MembersLost)
     ∷ (cannot_disarm h.armed h.number, NumbersSpent)
     ∷ [])
+
+-- no member holds a head, or what the one that leads is answered
+abbrev pub open_verdict : Option Head → Meaning → (sourceLabel targetLabel : Label) → (source target : Geometry) → Option Refusal
+open_verdict None a sl tl s t = Some NoHead
+open_verdict (Some h) a sl tl s t = head_verdict h a sl tl s t
+
+-- the shelf came on, and of the heads that its members hold then this one leads
+pub record Searched (a b : Meaning) (found : Option Head) : Type 0 where
+  pub restarted : Meaning
+  pub restarts : Restarts a restarted true
+  pub looked : Looked restarted b
+  pub led : LedBelow b b.members found
+
+-- the shelf did not come on
+pub record StaysOff (a b : Meaning) (e : Refused) : Type 0 where
+  pub restarts : Restarts a b false
+  pub refused : e ≡ record { refusal = PowerLost; fault = Some (record { operation = Restart; member = 0; sector = 0; row = None }) }
+
+-- it came on, and the power went at a read of a head
+pub record GoesDark (a b : Meaning) (e : Refused) : Type 0 where
+  pub restarted : Meaning
+  pub restarts : Restarts a restarted true
+  pub may : May nothing restarted b
+  pub cut : Cut b e
+  pub fault : Names (OnSector Read restarted 0) e.fault
+
+-- a restart and a search for the head that leads
+abbrev pub Restarted : Meaning → Meaning → Result (Option Head) Refused → Type 0
+Restarted a b (Ok found) = Searched a b found
+Restarted a b (Err e) = StaysOff a b e ⊎ GoesDark a b e
+
+-- A head was looked for, and where the verdict on it is a refusal, open answers that, names no operation, and has written nothing.
+pub record Answered (sl tl : Label) (s t : Geometry) (a b : Meaning) (r : Result Unit Refused) : Type 0 where
+  pub found : Option Head
+  pub after : Meaning
+  pub searched : Searched a after found
+  pub verdict : RefusedBy (open_verdict found after sl tl s t) (b ≡ after) r
+
+abbrev pub Darkened : Meaning → Meaning → Result Unit Refused → Type 0
+Darkened a b (Ok x) = ⊥
+Darkened a b (Err e) = StaysOff a b e ⊎ GoesDark a b e
+
+-- Open on a shelf with these layouts: it answers by the head that leads, or found no power for the search.
+abbrev pub OpensBy : (sourceLabel targetLabel : Label) → (source target : Geometry) → Meaning → Meaning → Result Unit Refused → Type 0
+OpensBy sl tl s t a b r = Answered sl tl s t a b r ⊎ Darkened a b r

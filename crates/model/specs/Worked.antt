@@ -1,20 +1,27 @@
 -- Examples of every definition of this crate. Contents of one byte stand for sectors.
-use Rattle.std.specs.Prelude.{◌≡◌, ℕ, Bool, true, false, cond, List, [], ◌∷◌, Some, None, Option, ◌==◌, nat_eq}
-use Rattle.answer.specs.declared.Refusal.TheVariants.{BufferLength, PastEnd, WrongPhase, RowInHand, NeedNotKept, BackupFull, AllKept, RowsLeft, AllSettled, OutOfLimits, MembersLost, PowerLost, NumbersSpent, WrongGrant}
+use Rattle.std.specs.Prelude.{◌≡◌, ℕ, ◌≤◌, Bool, true, false, cond, List, [], ◌∷◌, replicate, Some, None, Option, ◌==◌, nat_eq, slice_index_or}
+use Rattle.std.proofs.Common.{arith}
+use Rattle.answer.specs.declared.Refusal.{Refusal}
+use Rattle.answer.specs.declared.Refusal.TheVariants.{BufferLength, PastEnd, WrongPhase, RowInHand, NeedNotKept, BackupFull, AllKept, RowsLeft, AllSettled, DistanceAboveBackup, OutOfLimits, NoHead, LabelsDiffer, HeadMisfit, MembersLost, PowerLost, NumbersSpent, WrongGrant}
+use Rattle.head.specs.declared.state.Head.{Head}
+use Rattle.head.specs.declared.state.Progress.{Progress}
+use Rattle.head.specs.declared.state.Progress.TheVariants.{Idle, Moving as UnderWay}
 use Rattle.layout.specs.Geometry.{Geometry}
 use Rattle.layout.specs.declared.label.Label.{Label}
-use Rattle.layout.specs.declared.place.Owner.TheVariants.{Datum, Nobody}
+use Rattle.layout.specs.declared.place.Owner.TheVariants.{Datum, Nobody, Parity}
 use Rattle.overlap.specs.declared.walk.Home.TheVariants.{Source, Target, Backup}
 use Rattle.shelf.specs.Meaning.{Meaning}
 use Rattle.stage.specs.declared.phase.Phase.{Phase}
 use Rattle.stage.specs.declared.phase.Phase.TheVariants.{Before, Moving, After, Shut}
 use Rattle.model.specs.declared.count.Told.{Told}
-use Rattle.model.specs.declared.request.Request.TheVariants.{Write, Begin, Copy, Settle, Finish, Open}
+use Rattle.model.specs.declared.request.Request.TheVariants.{Write, Begin, Keep, Copy, Settle, Finish, Open}
 use Rattle.model.specs.declared.request.Answered.TheVariants.{Met}
 use Rattle.model.specs.Contents.{home_in}
 use Rattle.model.specs.Disks.{Disk, after, disk_of, granted, refused}
+use Rattle.model.specs.Effects.{content_of, created_over, left_by, parity_with, redone}
 use Rattle.model.specs.Histories.{chosen}
 use Rattle.model.specs.Knowing.{Volume}
+use Rattle.model.specs.Opening.{open_verdict}
 use Rattle.model.specs.Strays.{misplaced, strays}
 use Rattle.model.specs.Verdicts.{begin_verdict, copy_verdict, create_verdict, finish_verdict, keep_verdict, read_verdict, settle_verdict, write_verdict}
 
@@ -52,6 +59,24 @@ stripe = record {
   peer = λ x b. 0;
   parity = λ x. (0, 0);
   owner = λ p. cond (p.1 == 0) (Datum p.0 0) Nobody;
+}
+
+-- one group: two sectors and their parity, on three members
+abbrev triple : Geometry
+triple = record {
+  members = 3;
+  depth = 1;
+  copies = 1;
+  loss = 1;
+  row_len = 2;
+  rows = 1;
+  groups = 1;
+  datum = λ i j. (i, 0);
+  group = λ i. 0;
+  peers = λ x. 2;
+  peer = λ x b. b;
+  parity = λ x. (2, 0);
+  owner = λ p. cond (p.0 == 2) (Parity 0) (Datum p.0 0);
 }
 
 -- a shelf of two members and six sectors, with one backup slot: sector 3 is the slot, and the body is sectors 4 and 5
@@ -92,12 +117,60 @@ volume_of phase p q hand number = record {
   hand = hand;
 }
 
+-- two rows of mirrors that move into stripes, and the other way round
+abbrev volume_back : Volume
+volume_back = record {
+  crew = record { phase = Before; source = stripe; target = mirror };
+  number = 1;
+  size = 2;
+  backup = 1;
+  settled = 0;
+  kept = 0;
+  hand = None;
+}
+
+-- three members with sectors 7 and 8 and their exclusive-or
+abbrev grouped : Meaning
+grouped = record { members = 3; sectors = 5; on = true; present = all; settled = held; current = held }
+  where
+    held : ℕ → ℕ → List ℕ
+    held k s = cond (k == 0) (7 ∷ []) (cond (k == 1) (8 ∷ []) (15 ∷ []))
+
 -- the number of the last checkpoint that there can be
 abbrev last_number : ℕ
 last_number = 9223372036854775807
 
 abbrev label : ℕ → Label
 label kind = record { kind = kind; members = 2; copies = 1; reserved = 0; chunk = 1; depth = 1 }
+
+abbrev mirror_label : Label
+mirror_label = record { kind = 3; members = 2; copies = 2; reserved = 0; chunk = 1; depth = 2 }
+
+abbrev head_of : (number : ℕ) → (1 ≤ number) × (number ≤ 9223372036854775807) → Progress → Option ℕ → Head
+head_of number some progress armed = record {
+  number = number;
+  source = mirror_label;
+  progress = progress;
+  size = 2;
+  backup = 1;
+  armed = armed;
+  numbered = some;
+  backed = (omega arith, omega arith);
+}
+
+-- what open answers to a head of mirrors on the way to stripes
+abbrev opens : Option Head → (ℕ → Bool) → Label → Option Refusal
+opens h there target = open_verdict h (shelf_of true there right) mirror_label target mirror stripe
+
+abbrev first_head : Progress → Option ℕ → Option Head
+first_head progress armed = Some (head_of 1 (omega arith, omega arith) progress armed)
+
+abbrev last_head : Progress → Option ℕ → Option Head
+last_head progress armed = Some (head_of last_number (omega arith, omega arith) progress armed)
+
+-- the contents that a call has read
+abbrev read : ℕ → List ℕ
+read i = cond (i == 0) (7 ∷ []) (8 ∷ [])
 
 pub record CountExamples : Type 0 where
   pub none : strays mirror stripe (shelf_of true all right) 1 told disk ≡ 0
@@ -114,6 +187,36 @@ pub record HomeExamples : Type 0 where
   pub backup : home_in Moving mirror stripe 0 1 0 ≡ Backup
   pub source : home_in Moving mirror stripe 0 1 1 ≡ Source
   pub after : home_in After mirror stripe 0 0 1 ≡ Target
+
+pub record EffectExamples : Type 0 where
+  pub content : content_of (volume_of Before 0 0 None 1) (shelf_of true last right) 1 ≡ 8 ∷ []
+  pub slot : content_of (volume_of Moving 0 1 None 1) (shelf_of true all right) 0 ≡ 9 ∷ []
+  pub written : left_by (Write 1 (5 ∷ [])) (volume_of Before 0 0 None 1) read (6 ∷ []) right 0 5 ≡ 5 ∷ []
+  pub both_copies : left_by (Write 1 (5 ∷ [])) (volume_of Before 0 0 None 1) read (6 ∷ []) right 1 5 ≡ 5 ∷ []
+  pub other_place : left_by (Write 1 (5 ∷ [])) (volume_of Before 0 0 None 1) read (6 ∷ []) right 0 4 ≡ 7 ∷ []
+  pub log : left_by (Write 1 (5 ∷ [])) (volume_of Before 0 0 None 1) read (6 ∷ []) right 1 1 ≡ 5 ∷ []
+  pub logged_parity : left_by (Write 1 (5 ∷ [])) (volume_of Before 0 0 None 1) read (6 ∷ []) right 1 2 ≡ 6 ∷ []
+  pub to_slot : left_by (Write 0 (5 ∷ [])) (volume_of Moving 0 1 None 1) read (6 ∷ []) right 0 3 ≡ 5 ∷ []
+  pub kept : left_by Keep (volume_of Moving 0 0 None 1) read [] right 1 3 ≡ 7 ∷ []
+  pub copied : left_by Copy (volume_of Moving 0 2 None 1) read [] right 1 4 ≡ 8 ∷ []
+  pub not_copied : left_by Copy (volume_of Moving 0 2 None 1) read [] right 0 5 ≡ 8 ∷ []
+  pub settled : left_by (Settle 0) (volume_of Moving 0 2 (Some 0) 1) read [] right 0 4 ≡ 7 ∷ []
+  pub created : created_over mirror 1 right 1 5 ≡ replicate 512 0
+  pub redone : redone (Some 1) Idle mirror stripe 1 (5 ∷ []) [] right 0 5 ≡ 5 ∷ []
+  -- the other peer is 8, and 5 and 8 make 13
+  pub parity : slice_index_or (parity_with triple grouped 1 0 (5 ∷ [])) 0 0 ≡ 13
+  pub no_group : slice_index_or (parity_with mirror grouped 1 0 (5 ∷ [])) 0 9 ≡ 0
+
+pub record OpenExamples : Type 0 where
+  pub none : opens None all (label 1) ≡ Some NoHead
+  pub labels : opens (first_head (UnderWay (label 1) 0 0) None) all (label 4) ≡ Some LabelsDiffer
+  pub idle : opens (first_head Idle None) all (label 4) ≡ None
+  pub rows : opens (first_head (UnderWay (label 1) 2 0) None) all (label 1) ≡ Some HeadMisfit
+  pub logged : opens (first_head Idle (Some 2)) all (label 1) ≡ Some HeadMisfit
+  pub lost : opens (first_head (UnderWay (label 1) 0 0) None) last (label 1) ≡ Some MembersLost
+  pub borne : opens (first_head Idle None) last (label 1) ≡ None
+  pub numbers : opens (last_head Idle (Some 1)) all (label 1) ≡ Some NumbersSpent
+  pub unarmed : opens (last_head Idle None) all (label 1) ≡ None
 
 pub record DiskExamples : Type 0 where
   pub written : (granted (Write 1 (5 ∷ [])) disk).content 1 ≡ 5 ∷ []
@@ -148,4 +251,5 @@ pub record VerdictExamples : Type 0 where
   pub left : finish_verdict (volume_of Moving 0 2 None 1) (shelf_of true all right) ≡ Some RowsLeft
   pub numbers : finish_verdict (volume_of Moving 1 2 None last_number) (shelf_of true all right) ≡ Some NumbersSpent
   pub finish : finish_verdict (volume_of Moving 1 2 None 1) (shelf_of true all right) ≡ None
+  pub distance : begin_verdict mirror_label volume_back (shelf_of true all right) ≡ Some DistanceAboveBackup
   pub begin : begin_verdict (label 1) (volume_of Before 0 0 None 1) (shelf_of true all right) ≡ None

@@ -1,7 +1,7 @@
 // What a volume is to show, by the meaning of its shelf and its layouts alone.
 #![tactic(auto)]
 
-ghost use Rattle.model.specs.Worked.{CountExamples, DiskExamples, HomeExamples, VerdictExamples};
+ghost use Rattle.model.specs.Worked.{CountExamples, DiskExamples, EffectExamples, HomeExamples, OpenExamples, VerdictExamples};
 
 pub mod call;
 pub mod count;
@@ -16,5 +16,7 @@ pub fn worked_examples()
     ensures counts { CountExamples }
     ensures homes { HomeExamples }
     ensures disks { DiskExamples }
+    ensures effects { EffectExamples }
+    ensures opens { OpenExamples }
     ensures verdicts { VerdictExamples }
 {}

@@ -16,6 +16,12 @@ names_as : (F G : Fault → Type 0) → ((f : Fault) → F f → G f) → (o : O
 names_as F G h None n = n
 names_as F G h (Some f) n = h f n
 
+-- whatever a stage came to, it wrote by its plan
+pub stage_may : {A : Type 0} (w : Crew) {P : ℕ → ℕ → List ℕ → Type 0} (F : Fault → Type 0) {a b : Meaning} (D : A → Type 0) (r : Result A Refused)
+    → Stage w P F a b D r → May P a b
+stage_may w F D (Ok x) s = s.0
+stage_may w F D (Err e) s = s.0
+
 -- What was reached by one stage, and another after it.
 pub stage_after : {A : Type 0} {w : Crew} (P Q : ℕ → ℕ → List ℕ → Type 0) (F G : Fault → Type 0) {a b c : Meaning} (D E : A → Type 0)
     → May P a b → GoesOn w a b → ((k s : ℕ) (x : List ℕ) → Q k s x → P k s x) → ((f : Fault) → F f → G f) → ((x : A) → May Q b c → D x → E x)
@@ -24,9 +30,15 @@ stage_after P Q F G D E m g wider names done (Ok x) s = (may_then m (may_wider w
 stage_after P Q F G D E m g wider names done (Err e) s =
     (may_then m (may_wider wider s.0), record { why = s.1.why; fault = names_as F G names e.fault s.1.fault })
 
--- a shelf keeps its members
-pub sector_same : (op : Operation) (t : ℕ) {a b : Meaning} → b.members ≡ a.members → (f : Fault) → OnSector op b t f → OnSector op a t f
-sector_same op t same f n = record { operation = n.operation; member = (let lt = n.member in omega (arith, lt, same)); sector = n.sector; row = n.row }
+-- a shelf keeps its members, and who is there was there before
+pub sector_same : (op : Operation) (t : ℕ) {P : ℕ → ℕ → List ℕ → Type 0} {a b : Meaning} → May P a b → (f : Fault) → OnSector op b t f → OnSector op a t f
+sector_same op t m f n = record {
+  operation = n.operation;
+  member = (let lt = n.member in let same = m.members in omega (arith, lt, same));
+  there = was_present m f.member n.there;
+  sector = n.sector;
+  row = n.row;
+}
 
 -- a content written to every member, then a flush
 pub spread_after : {w : Crew} (x c : List ℕ) (a b d : Meaning) → x ≡ c → May (AtSector 0 x) a b → GoesOn w a b → WrittenAll 0 x b
@@ -34,7 +46,7 @@ pub spread_after : {w : Crew} (x c : List ℕ) (a b d : Meaning) → x ≡ c →
 spread_after {w} x c a b d same m g written r s =
     subst (λ y. Stage w (AtSector 0 y) (OnHeads a) a d (λ u. Spread 0 y d) r) same
     (stage_after (AtSector 0 x) nothing (OnSector Flush b 0) (OnHeads a) (λ u. FlushedAll d) (λ u. Spread 0 x d) m g (λ k t y p. absurd p)
-    (λ f n. inr (sector_same Flush 0 m.members f n))
+    (λ f n. inr (sector_same Flush 0 m f n))
     (λ u n flushed. record {
       written = λ k there. holds_stays 0 x k (written k (was_present n k there)) (may_wider (λ k t y p. absurd p) n);
       flushed = flushed;

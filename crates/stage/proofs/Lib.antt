@@ -3,3 +3,4 @@ pub mod Crews
 pub mod Loops
 pub mod Mays
 pub mod Operations
+pub mod Leading

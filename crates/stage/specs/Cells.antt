@@ -27,7 +27,7 @@ Put (Err Off) m t c a b = Unit {0}
 Put (Err OutOfRange) m t c a b = Has a m t → ⊥
 
 abbrev pub Got : Answer → ℕ → ℕ → List ℕ → List ℕ → Meaning → Meaning → Type 0
-Got (Ok x) m t old new a b = t < a.sectors → new ≡ b.current m t
+Got (Ok x) m t old new a b = (t < a.sectors) × (new ≡ b.current m t)
 Got (Err Absent) m t old new a b = new ≡ old
 Got (Err Off) m t old new a b = new ≡ old
 Got (Err OutOfRange) m t old new a b = (new ≡ old) × (Has a m t → ⊥)

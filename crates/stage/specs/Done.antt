@@ -1,5 +1,5 @@
 -- What the stages leave when they are done, and the operations that they name when they are not.
-use Rattle.std.specs.Prelude.{◌≡◌, ℕ, ◌<◌, Bool, true, false, ◌⊎◌, List, Some, None, Ok, Err, Option, Result}
+use Rattle.std.specs.Prelude.{◌≡◌, ℕ, ◌<◌, ◌≤◌, Bool, true, false, ◌⊎◌, List, replicate, Some, None, Ok, Err, Option, Result}
 use Rattle.answer.specs.declared.Operation.{Operation}
 use Rattle.answer.specs.declared.Operation.TheVariants.{Write, Flush}
 use Rattle.answer.specs.declared.Refusal.TheVariants.{MembersLost, PowerLost}
@@ -10,17 +10,19 @@ use Rattle.shelf.specs.Meaning.{Meaning}
 use Rattle.shelf.specs.declared.Failure.TheVariants.{Absent, Off, OutOfRange}
 use Rattle.stage.specs.Crew.{Crew, enough}
 
--- an operation on a sector of a member
-pub record OnCell (op : Operation) (m t : ℕ) (f : Fault) : Type 0 where
+-- an operation on a sector of a member that was there
+pub record OnCell (op : Operation) (a : Meaning) (m t : ℕ) (f : Fault) : Type 0 where
   pub operation : f.operation ≡ op
   pub member : f.member ≡ m
+  pub there : a.present f.member ≡ true
   pub sector : f.sector ≡ t
   pub row : f.row ≡ None
 
--- an operation on a sector of some member that the shelf has
+-- an operation on a sector of some member that the shelf has, and that was there
 pub record OnSector (op : Operation) (a : Meaning) (t : ℕ) (f : Fault) : Type 0 where
   pub operation : f.operation ≡ op
   pub member : f.member < a.members
+  pub there : a.present f.member ≡ true
   pub sector : f.sector ≡ t
   pub row : f.row ≡ None
 
@@ -44,9 +46,14 @@ WrittenAt m t c b = b.present m ≡ true → t < b.sectors → b.current m t ≡
 abbrev pub FlushedAt : ℕ → Meaning → Type 0
 FlushedAt m b = b.present m ≡ true → (s : ℕ) → b.settled m s ≡ b.current m s
 
+-- what is current in a sector, and zeros from the shelf's sectors on
+pub record Holds (m t : ℕ) (b : Meaning) (content : List ℕ) : Type 0 where
+  pub inside : t < b.sectors → content ≡ b.current m t
+  pub past : b.sectors ≤ t → content ≡ replicate 512 0
+
 -- a read gives what is current there, or the member is not there
 abbrev pub ReadAt : (m t : ℕ) → Meaning → Option (List ℕ) → Type 0
-ReadAt m t b (Some content) = (b.present m ≡ true) × (t < b.sectors → content ≡ b.current m t)
+ReadAt m t b (Some content) = (b.present m ≡ true) × Holds m t b content
 ReadAt m t b None = b.present m ≡ false
 
 -- the same of every member
@@ -65,7 +72,7 @@ pub record Lowest (b : Meaning) (k : ℕ) : Type 0 where
 pub record FromLowest (t : ℕ) (new : List ℕ) (b : Meaning) : Type 0 where
   pub member : ℕ
   pub lowest : Lowest b member
-  pub content : t < b.sectors → new ≡ b.current member t
+  pub content : Holds member t b new
 
 -- a read from the lowest member, or none is there
 abbrev pub ReadAny : ℕ → Meaning → Option (List ℕ) → Type 0

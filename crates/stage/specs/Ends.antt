@@ -17,15 +17,16 @@ pub record Cut (b : Meaning) (e : Refused) : Type 0 where
   pub refusal : e.refusal ≡ PowerLost
   pub off : b.on ≡ false
 
--- too few members are left
+abbrev pub Names : (Fault → Type 0) → Option Fault → Type 0
+Names F None = ⊥
+Names F (Some f) = F f
+
+-- too few members are left, since the one that the fault names is gone
 pub record Bereft (w : Crew) (b : Meaning) (e : Refused) : Type 0 where
   pub refusal : e.refusal ≡ MembersLost
   pub on : b.on ≡ true
   pub few : enough w b ≡ false
-
-abbrev pub Names : (Fault → Type 0) → Option Fault → Type 0
-Names F None = ⊥
-Names F (Some f) = F f
+  pub lost : Names (λ f. b.present f.member ≡ false) e.fault
 
 -- power or members were met lacking, at an operation of which F holds
 pub record Met (w : Crew) (F : Fault → Type 0) (b : Meaning) (e : Refused) : Type 0 where

@@ -5,3 +5,4 @@ pub mod Walks
 pub mod Cells
 pub mod Ends
 pub mod Done
+pub mod Heads

@@ -1,5 +1,5 @@
 -- What operations that write by a plan may make of a shelf.
-use Rattle.std.specs.Prelude.{◌≡◌, ℕ, false, ◌⊎◌, List}
+use Rattle.std.specs.Prelude.{◌≡◌, ℕ, ◌+◌, ◌<◌, ◌≤◌, false, ◌⊎◌, List}
 use Rattle.shelf.specs.Meaning.{Meaning}
 
 -- From a to b the shelf saw only operations that write contents that P allows at a member and a sector.
@@ -24,3 +24,19 @@ pub record AtCell (m t : ℕ) (c : List ℕ) (k s : ℕ) (x : List ℕ) : Type 0
 pub record AtSector (t : ℕ) (c : List ℕ) (k s : ℕ) (x : List ℕ) : Type 0 where
   pub sector : s ≡ t
   pub content : x ≡ c
+
+-- plans of the larger stages: any contents from a sector on, one content there, and any contents in the slots before the body
+pub record From (first : ℕ) (k s : ℕ) (x : List ℕ) : Type 0 where
+  pub sector : first ≤ s
+
+pub record OneFrom (first : ℕ) (c : List ℕ) (k s : ℕ) (x : List ℕ) : Type 0 where
+  pub sector : first ≤ s
+  pub content : x ≡ c
+
+pub record InSlots (backup : ℕ) (k s : ℕ) (x : List ℕ) : Type 0 where
+  pub sector : 3 ≤ s
+  pub slot : s < 3 + backup
+
+-- by one plan or by another
+abbrev pub EitherPlan : (P Q : ℕ → ℕ → List ℕ → Type 0) → ℕ → ℕ → List ℕ → Type 0
+EitherPlan P Q k s x = P k s x ⊎ Q k s x

@@ -1,4 +1,6 @@
 // What the sectors of a volume hold, read from where they live.
+ghost use Rattle.stage.specs.May.{May, nothing};
+
 use crate::array::Array;
 use answer::{Refusal, Refused};
 use layout::Layout;
@@ -10,16 +12,16 @@ use shelf::Shelf;
 // have to borrow it from the array beside the array.
 impl<L: Layout> Array<L> {
     // A sector that every member holds, while there is a member to read it from.
-    pub(crate) fn read_held<S: Shelf>(
-        &self,
-        shelf: &mut S,
-        sector: u64,
-    ) -> Result<Sector, Refused> {
+    pub(crate) fn read_held<S: Shelf>(&self, shelf: &mut S, sector: u64) -> Result<Sector, Refused>
+        ensures { May nothing (S.meaning shelf.old) (S.meaning shelf.new) }
+    {
         Ok(self.read_any(shelf, sector)?.ok_or(Refusal::MembersLost)?)
     }
 
     // The content of a sector, read from its home.
-    pub fn show<S: Shelf>(&self, shelf: &mut S, sector: u64) -> Result<Sector, Refused> {
+    pub fn show<S: Shelf>(&self, shelf: &mut S, sector: u64) -> Result<Sector, Refused>
+        ensures { May nothing (S.meaning shelf.old) (S.meaning shelf.new) }
+    {
         match self.home_layout(sector) {
             Some(layout) => self.show_in(shelf, layout, sector),
             None => self.read_held(shelf, self.slot(sector)),
@@ -27,7 +29,9 @@ impl<L: Layout> Array<L> {
     }
 
     // The content of a sector as a layout's places give it: the lowest copy present, else what the rest of its group makes it.
-    fn show_in<S: Shelf>(&self, shelf: &mut S, layout: &L, sector: u64) -> Result<Sector, Refused> {
+    fn show_in<S: Shelf>(&self, shelf: &mut S, layout: &L, sector: u64) -> Result<Sector, Refused>
+        ensures { May nothing (S.meaning shelf.old) (S.meaning shelf.new) }
+    {
         for copy in 0..layout.copies() {
             if let Some(content) = self.read_place(shelf, layout.place(sector, copy))? {
                 return Ok(content);
@@ -37,7 +41,9 @@ impl<L: Layout> Array<L> {
     }
 
     // A lost sector: the exclusive-or of its peers and the parity.
-    fn rebuild<S: Shelf>(&self, shelf: &mut S, layout: &L, sector: u64) -> Result<Sector, Refused> {
+    fn rebuild<S: Shelf>(&self, shelf: &mut S, layout: &L, sector: u64) -> Result<Sector, Refused>
+        ensures { May nothing (S.meaning shelf.old) (S.meaning shelf.new) }
+    {
         let group = layout.group(sector).ok_or(Refusal::MembersLost)?;
         let mut content = self
             .fold_others(shelf, layout, group, sector, zeros())?
@@ -54,7 +60,9 @@ impl<L: Layout> Array<L> {
         group: u64,
         sector: u64,
         content: Sector,
-    ) -> Result<Option<Sector>, Refused> {
+    ) -> Result<Option<Sector>, Refused>
+        ensures { May nothing (S.meaning shelf.old) (S.meaning shelf.new) }
+    {
         let mut folded = content;
         for index in 0..layout.peers(group) {
             let peer = layout.peer(group, index);
@@ -69,13 +77,17 @@ impl<L: Layout> Array<L> {
     }
 
     // What lies at a place; None where its member is not present.
-    fn read_place<S: Shelf>(&self, shelf: &mut S, place: Place) -> Result<Option<Sector>, Refused> {
+    fn read_place<S: Shelf>(&self, shelf: &mut S, place: Place) -> Result<Option<Sector>, Refused>
+        ensures { May nothing (S.meaning shelf.old) (S.meaning shelf.new) }
+    {
         let (member, offset) = place;
         self.read_at(shelf, member, self.body().saturating_add(offset))
     }
 
     // The same, where the call cannot do without it.
-    fn place_held<S: Shelf>(&self, shelf: &mut S, place: Place) -> Result<Sector, Refused> {
+    fn place_held<S: Shelf>(&self, shelf: &mut S, place: Place) -> Result<Sector, Refused>
+        ensures { May nothing (S.meaning shelf.old) (S.meaning shelf.new) }
+    {
         Ok(self.read_place(shelf, place)?.ok_or(Refusal::MembersLost)?)
     }
 
@@ -85,7 +97,9 @@ impl<L: Layout> Array<L> {
         shelf: &mut S,
         sector: u64,
         datum: &Sector,
-    ) -> Result<Sector, Refused> {
+    ) -> Result<Sector, Refused>
+        ensures { May nothing (S.meaning shelf.old) (S.meaning shelf.new) }
+    {
         match self.home_layout(sector) {
             Some(layout) => self.parity_in(shelf, layout, sector, datum),
             None => Ok(zeros()),
@@ -100,7 +114,9 @@ impl<L: Layout> Array<L> {
         layout: &L,
         sector: u64,
         datum: &Sector,
-    ) -> Result<Sector, Refused> {
+    ) -> Result<Sector, Refused>
+        ensures { May nothing (S.meaning shelf.old) (S.meaning shelf.new) }
+    {
         let Some(group) = layout.group(sector) else {
             return Ok(zeros());
         };
@@ -118,7 +134,9 @@ impl<L: Layout> Array<L> {
         group: u64,
         sector: u64,
         datum: &Sector,
-    ) -> Result<Sector, Refused> {
+    ) -> Result<Sector, Refused>
+        ensures { May nothing (S.meaning shelf.old) (S.meaning shelf.new) }
+    {
         let mut parity = *datum;
         fold(
             &mut parity,

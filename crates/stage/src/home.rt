@@ -1,4 +1,5 @@
 // Where the sectors of a volume live.
+ghost use Rattle.std.specs.Prelude.{◌≡◌, ◌+◌, ◌%◌};
 ghost use Rattle.stage.specs.Walks.{WalkOf};
 
 use crate::array::Array;
@@ -19,7 +20,7 @@ impl<L: Layout> Array<L> {
     }
 
     // Where a sector lives.
-    pub fn home(&self, sector: u64) -> Home {
+    fn home(&self, sector: u64) -> Home {
         match self.phase {
             Phase::Moving => self.walk().home(sector),
             Phase::After => Home::Target,
@@ -37,12 +38,16 @@ impl<L: Layout> Array<L> {
     }
 
     // The shelf sector at which a member's body begins, after the backup slots.
-    pub(crate) fn body(&self) -> u64 {
+    pub(crate) fn body(&self) -> u64
+        ensures { result ≡ 3 + self.now.head.backup }
+    {
         SLOTS_AT + u64::from(self.head.backup)
     }
 
     // The shelf sector of the backup slot of a sector.
-    pub(crate) fn slot(&self, sector: u64) -> u64 {
+    pub(crate) fn slot(&self, sector: u64) -> u64
+        ensures { result ≡ 3 + sector % self.now.head.backup }
+    {
         SLOTS_AT + sector % u64::from(self.head.backup)
     }
 }

@@ -7,6 +7,7 @@ pub mod array;
 mod checkpoint;
 mod content;
 mod every;
+pub mod heads;
 mod home;
 pub mod logged;
 mod member;

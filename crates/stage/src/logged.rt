@@ -1,4 +1,7 @@
 // A write, by way of the log.
+ghost use Rattle.std.specs.Prelude.{◌+◌};
+ghost use Rattle.stage.specs.May.{AtSector, EitherPlan, From, May, OneFrom};
+
 use crate::array::Array;
 use answer::Refused;
 use head::{LOGGED_DATUM_AT, LOGGED_PARITY_AT};
@@ -17,14 +20,18 @@ pub struct Entry<'a> {
 
 impl<L: Layout> Array<L> {
     // Puts a write into the log on every present member. Nothing rests on it until a head is armed for it.
-    pub fn log<S: Shelf>(&self, shelf: &mut S, entry: Entry) -> Result<(), Refused> {
+    pub fn log<S: Shelf>(&self, shelf: &mut S, entry: Entry) -> Result<(), Refused>
+        ensures { May (EitherPlan (AtSector 1 entry.entry.datum.now) (AtSector 2 entry.entry.parity.now)) (S.meaning shelf.old) (S.meaning shelf.new) }
+    {
         self.write_all(shelf, LOGGED_DATUM_AT, entry.datum)?;
         self.write_all(shelf, LOGGED_PARITY_AT, entry.parity)?;
         self.flush_all(shelf)
     }
 
     // Carries a logged write out: every place of the sector's home, and settled.
-    pub fn apply<S: Shelf>(&self, shelf: &mut S, entry: Entry) -> Result<(), Refused> {
+    pub fn apply<S: Shelf>(&self, shelf: &mut S, entry: Entry) -> Result<(), Refused>
+        ensures { May (EitherPlan (OneFrom 3 entry.entry.datum.now) (OneFrom 3 entry.entry.parity.now)) (S.meaning shelf.old) (S.meaning shelf.new) }
+    {
         match self.home_layout(entry.sector) {
             Some(layout) => self.write_places(shelf, layout, entry)?,
             None => self.write_all(shelf, self.slot(entry.sector), entry.datum)?,
@@ -33,7 +40,9 @@ impl<L: Layout> Array<L> {
     }
 
     // Carries out again the write that stands in the log.
-    pub fn redo<S: Shelf>(&self, shelf: &mut S, sector: u64) -> Result<(), Refused> {
+    pub fn redo<S: Shelf>(&self, shelf: &mut S, sector: u64) -> Result<(), Refused>
+        ensures { May (From 3) (S.meaning shelf.old) (S.meaning shelf.new) }
+    {
         let datum = self.read_held(shelf, LOGGED_DATUM_AT)?;
         let parity = self.read_held(shelf, LOGGED_PARITY_AT)?;
         self.apply(
@@ -47,12 +56,9 @@ impl<L: Layout> Array<L> {
     }
 
     // Writes all copies of a sector and the parity of its group.
-    fn write_places<S: Shelf>(
-        &self,
-        shelf: &mut S,
-        layout: &L,
-        entry: Entry,
-    ) -> Result<(), Refused> {
+    fn write_places<S: Shelf>(&self, shelf: &mut S, layout: &L, entry: Entry) -> Result<(), Refused>
+        ensures { May (EitherPlan (OneFrom (3 + self.now.head.backup) entry.entry.datum.now) (OneFrom (3 + self.now.head.backup) entry.entry.parity.now)) (S.meaning shelf.old) (S.meaning shelf.new) }
+    {
         self.write_copies(shelf, layout, entry.sector, entry.datum)?;
         if let Some(group) = layout.group(entry.sector) {
             self.write_place(shelf, layout.parity(group), entry.parity)?;
@@ -67,7 +73,9 @@ impl<L: Layout> Array<L> {
         layout: &L,
         sector: u64,
         datum: &Sector,
-    ) -> Result<(), Refused> {
+    ) -> Result<(), Refused>
+        ensures { May (OneFrom (3 + self.now.head.backup) datum.now) (S.meaning shelf.old) (S.meaning shelf.new) }
+    {
         for copy in 0..layout.copies() {
             self.write_place(shelf, layout.place(sector, copy), datum)?;
         }
@@ -79,7 +87,9 @@ impl<L: Layout> Array<L> {
         shelf: &mut S,
         place: Place,
         content: &Sector,
-    ) -> Result<(), Refused> {
+    ) -> Result<(), Refused>
+        ensures { May (OneFrom (3 + self.now.head.backup) content.now) (S.meaning shelf.old) (S.meaning shelf.new) }
+    {
         let (member, offset) = place;
         self.write_at(shelf, member, self.body().saturating_add(offset), content)
     }

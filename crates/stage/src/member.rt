@@ -34,7 +34,7 @@ impl<L: Layout> Array<L> {
         sector: u64,
         content: &Sector,
     ) -> Result<(), Refused>
-        ensures stage { Stage (crew_of L.geometry self.now) (AtCell member sector content.now) (OnCell Write member sector) (S.meaning shelf.old) (S.meaning shelf.new) (λ _. WrittenAt member sector content.now (S.meaning shelf.new)) result }
+        ensures stage { Stage (crew_of L.geometry self.now) (AtCell member sector content.now) (OnCell Write (S.meaning shelf.old) member sector) (S.meaning shelf.old) (S.meaning shelf.new) (λ _. WrittenAt member sector content.now (S.meaning shelf.new)) result }
         ensures others { Others member (S.meaning shelf.old) (S.meaning shelf.new) }
     {
         if shelf.is_present(member) {
@@ -51,7 +51,7 @@ impl<L: Layout> Array<L> {
         member: u64,
         sector: u64,
     ) -> Result<Option<Sector>, Refused>
-        ensures stage { Stage (crew_of L.geometry self.now) nothing (OnCell Read member sector) (S.meaning shelf.old) (S.meaning shelf.new) (λ found. ReadAt member sector (S.meaning shelf.new) found) result }
+        ensures stage { Stage (crew_of L.geometry self.now) nothing (OnCell Read (S.meaning shelf.old) member sector) (S.meaning shelf.old) (S.meaning shelf.new) (λ found. ReadAt member sector (S.meaning shelf.new) found) result }
         ensures others { Others member (S.meaning shelf.old) (S.meaning shelf.new) }
     {
         if !shelf.is_present(member) {
@@ -65,7 +65,7 @@ impl<L: Layout> Array<L> {
 
     // Flushes a member, if it is present.
     pub fn flush_at<S: Shelf>(&self, shelf: &mut S, member: u64) -> Result<(), Refused>
-        ensures stage { Stage (crew_of L.geometry self.now) nothing (OnCell Flush member 0) (S.meaning shelf.old) (S.meaning shelf.new) (λ _. FlushedAt member (S.meaning shelf.new)) result }
+        ensures stage { Stage (crew_of L.geometry self.now) nothing (OnCell Flush (S.meaning shelf.old) member 0) (S.meaning shelf.old) (S.meaning shelf.new) (λ _. FlushedAt member (S.meaning shelf.new)) result }
         ensures others { Others member (S.meaning shelf.old) (S.meaning shelf.new) }
     {
         if shelf.is_present(member) {

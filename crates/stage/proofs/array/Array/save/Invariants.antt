@@ -1,0 +1,8 @@
+use Rattle.stage.specs.May.{InSlots, May}
+use Rattle.stage.proofs.array.Array.save.Given as goal
+
+abbrev pub invariant-loop-sector : goal.invariant-loop-sector
+invariant-loop-sector g l =
+    (goal.iterator-loop-sector g).can_next l.sector-iterator ×
+    (goal.iterator-loop-sector g).is_finite l.sector-iterator ×
+    May (InSlots l.self.head.backup) (g.S.Shelf.meaning l.initial.shelf) (g.S.Shelf.meaning l.shelf)
