@@ -36,5 +36,10 @@ pub record OnlyHand {S L : Type 0} (a b : Volume S L) (held : Option ℕ) : Type
   pub shelf : b.shelf ≡ a.shelf
   pub hand : b.hand ≡ held
 
+-- nothing has changed but the shelf
+pub record OnlyShelf {S L : Type 0} (a b : Volume S L) : Type 0 where
+  pub array : b.array ≡ a.array
+  pub hand : b.hand ≡ a.hand
+
 abbrev pub row_of : Grant → ℕ
 row_of g = g.row

@@ -2,11 +2,13 @@
 // docs/CALLS.md has the calls and their refusals, docs/MOVE.md the move.
 #![tactic(auto)]
 
-ghost use Rattle.std.specs.Prelude.{◌≡◌, ◌≤◌, length, IfOk, None, OnErr, OnOk};
+ghost use Rattle.std.specs.Prelude.{◌≡◌, ◌+◌, ◌≤◌, length, IfOk, None, OnErr, OnOk};
 ghost use Rattle.head.specs.declared.state.Progress.TheVariants.{Idle};
 ghost use Rattle.stage.specs.declared.phase.Phase.TheVariants.{Before};
+ghost use Rattle.stage.specs.May.{From, May, nothing};
+ghost use Rattle.model.specs.Opening.{OpensBy, Restarted};
 ghost use Rattle.model.specs.Verdicts.{HandedBack, InUse, RefusedBy, ShutBy, ShutsBy, begin_verdict, copy_verdict, create_verdict, emptied, finish_verdict, is_hand, keep_verdict, read_verdict, settle_verdict, write_verdict};
-ghost use Rattle.volume.specs.Volumes.{OnlyHand, distance_in, hand_of, known, phase_of, row_of, shelf_of, source_of, target_of};
+ghost use Rattle.volume.specs.Volumes.{OnlyHand, OnlyShelf, distance_in, hand_of, known, phase_of, row_of, shelf_of, source_of, target_of};
 
 pub mod grant;
 mod judge;
@@ -14,12 +16,13 @@ pub mod phase;
 
 use answer::{Fault, Operation, Refusal, Refused};
 use grant::Grant;
-use head::{HEAD_AT, Head, Progress, leading};
+use head::{HEAD_AT, Head, Progress};
 use layout::Layout;
 use layout::label::Label;
-use sector::{Sector, zeros};
-use shelf::{Failure, Shelf};
+use sector::Sector;
+use shelf::Shelf;
 use stage::array::Array;
+use stage::heads::leading_head;
 use stage::logged::Entry;
 use stage::phase::Phase;
 
@@ -59,7 +62,8 @@ impl<S: Shelf, L: Layout> Volume<S, L> {
 
     // The volume that a shelf holds, once power is back. An idle head needs the source only. It stands beside the result, as in create.
     pub fn open(shelf: S, source: L, target: L) -> (Volume<S, L>, Result<(), Refused>)
-        ensures { ShutBy (phase_of result.0) result.1 }
+        ensures head { OpensBy (L.named source) (L.named target) (L.geometry source) (L.geometry target) (S.meaning shelf) (S.meaning (shelf_of result.0)) result.1 }
+        ensures shut { ShutBy (phase_of result.0) result.1 }
     {
         let mut volume = Volume::unopened(shelf, source, target);
         let result = volume.take_up();
@@ -128,6 +132,7 @@ impl<S: Shelf, L: Layout> Volume<S, L> {
     pub fn read(&mut self, sector: u64, buffer: &mut [u8]) -> Result<(), Refused>
         ensures verdict { RefusedBy (read_verdict (known L.geometry self.old) (S.meaning (shelf_of self.old)) sector (length buffer.old)) (self.new ≡ self.old) result }
         ensures buffer { OnErr result (buffer.new ≡ buffer.old) }
+        ensures writes { May nothing (S.meaning (shelf_of self.old)) (S.meaning (shelf_of self.new)) }
     {
         self.judge_read(sector, buffer.len())?;
         let content = self.array.show(&mut self.shelf, sector)?;
@@ -175,7 +180,8 @@ impl<S: Shelf, L: Layout> Volume<S, L> {
 
     // Writes the next target row, and grants to settle it.
     pub fn copy(&mut self) -> Result<Grant, Refused>
-        ensures { RefusedBy (copy_verdict (known L.geometry self.old) (S.meaning (shelf_of self.old))) (self.new ≡ self.old) result }
+        ensures verdict { RefusedBy (copy_verdict (known L.geometry self.old) (S.meaning (shelf_of self.old))) (self.new ≡ self.old) result }
+        ensures writes { May (From (3 + (known L.geometry self.old).backup)) (S.meaning (shelf_of self.old)) (S.meaning (shelf_of self.new)) }
     {
         self.judge_copy()?;
         let walk = self.array.walk();
@@ -276,9 +282,10 @@ impl<S: Shelf, L: Layout> Volume<S, L> {
 
     // Finds the head that leads, has every member hold it, and finishes a write that it is armed for.
     fn take_up(&mut self) -> Result<(), Refused>
-        ensures { OnOk result (InUse (phase_of self.new)) }
+        ensures in_use { OnOk result (InUse (phase_of self.new)) }
+        ensures head { OpensBy (L.named (source_of self.old)) (L.named (target_of self.old)) (L.geometry (source_of self.old)) (L.geometry (target_of self.old)) (S.meaning (shelf_of self.old)) (S.meaning (shelf_of self.new)) result }
     {
-        let head = self.restarted_head()?;
+        let head = self.restarted_head()?.ok_or(Refusal::NoHead)?;
         self.judge_head(&head)?;
         self.array.head = head;
         self.array.phase = match head.progress {
@@ -293,29 +300,16 @@ impl<S: Shelf, L: Layout> Volume<S, L> {
         self.checkpoint_armed(None)
     }
 
-    // Restarts the shelf and reads every head; members that are found absent here are judged later.
-    fn restarted_head(&mut self) -> Result<Head, Refused> {
+    // Restarts the shelf and looks for the head that leads; members that are found absent here are judged later.
+    fn restarted_head(&mut self) -> Result<Option<Head>, Refused>
+        ensures found { Restarted (S.meaning (shelf_of self.old)) (S.meaning (shelf_of self.new)) result }
+        ensures rest { OnlyShelf self.old self.new }
+    {
         if !self.shelf.restart() {
-            return Err(power_lost(Operation::Restart, 0));
+            let fault = Fault::at(Operation::Restart, 0, HEAD_AT);
+            return Err(Refused::met(Refusal::PowerLost, fault));
         }
-        let mut found = None;
-        for member in 0..self.shelf.members() {
-            found = leading(found, self.head_of(member)?);
-        }
-        Ok(found.ok_or(Refusal::NoHead)?)
-    }
-
-    // The head that a member holds, if it is there and has one.
-    fn head_of(&mut self, member: u64) -> Result<Option<Head>, Refused> {
-        if !self.shelf.is_present(member) {
-            return Ok(None);
-        }
-        let mut bytes = zeros();
-        match self.shelf.read(member, HEAD_AT, &mut bytes) {
-            Ok(()) => Ok(Head::decode(&bytes)),
-            Err(Failure::Absent | Failure::OutOfRange) => Ok(None),
-            Err(Failure::Off) => Err(power_lost(Operation::Read, member)),
-        }
+        leading_head(&mut self.shelf)
     }
 
     // A checkpoint that arms the head for a sector, or disarms it.
@@ -379,9 +373,4 @@ fn first_head(source: Label, size: u64, backup: u32) -> Head
         backup,
         armed: None,
     }
-}
-
-// Power found lost at an operation on a member's head.
-fn power_lost(operation: Operation, member: u64) -> Refused {
-    Refused::met(Refusal::PowerLost, Fault::at(operation, member, HEAD_AT))
 }
