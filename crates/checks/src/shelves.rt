@@ -3,7 +3,7 @@ use crate::setup::{Ends, answered, lies_at, pattern, striped};
 use answer::Refusal;
 use sector::{SECTOR, zeros};
 use shelf::plain::PlainShelf;
-use shelf::trial::{NEVER, TrialShelf};
+use shelf::trial::{Cut, NEVER, TrialShelf};
 use shelf::{Answer, Failure, Shelf};
 use std::alloc::Global;
 use std::test::Fail;
@@ -192,5 +192,73 @@ fn blank_shelves(rt: HostRuntime) -> Result<(), Fail> {
         assert_eq!(rt; (trial.fuse(), trial.choice()), (NEVER, 0));
         assert!(rt; trial.into_bytes().iter().all(|byte| *byte == 0));
     }
+    Ok(())
+}
+
+// The sectors of a shelf of 2 members with 2 sectors, by the versions that are written there: each in its place of the run.
+const PLACED: [(u64, u64, u64); 4] = [(0, 0, 1), (0, 1, 2), (1, 0, 3), (1, 1, 4)];
+
+// A write to the plain shelf is settled at once: it is read, outlasts a restart, and lies in its place of the run. A shelf over
+// that run has the same sectors.
+#[test]
+fn plain_keeps(rt: HostRuntime) -> Result<(), Fail> {
+    let mut shelf = PlainShelf::blank(rt.alloc(), 2, 2)?;
+    for (member, sector, version) in PLACED {
+        put(&mut shelf, member, sector, version)?;
+    }
+    assert!(rt; shelf.flush(0) == Ok(()) && shelf.restart() && shelf.is_on());
+    let run = shelf.into_bytes();
+    for (at, (_, _, version)) in PLACED.iter().copied().enumerate() {
+        assert!(rt; lies_at(&run, at, version));
+    }
+    let mut again = PlainShelf::new(2, 2, run);
+    for (member, sector, version) in PLACED {
+        assert!(rt; again.is_present(member) && holds(&mut again, member, sector, version));
+    }
+    assert!(rt; refuses_ranges(&mut PlainShelf::blank(rt.alloc(), 2, 3)?));
+    Ok(())
+}
+
+// Each operation in range counts the fuse down, also one on an absent member. A fuse of never stays; a restart sets it to never and
+// leaves the choice word.
+#[test]
+fn fuse_counts(rt: HostRuntime) -> Result<(), Fail> {
+    let mut shelf = TrialShelf::blank(rt.alloc(), 2, 2)?;
+    put(&mut shelf, 0, 0, 1)?;
+    assert_eq!(rt; shelf.fuse(), NEVER);
+    shelf.set_cut(Cut { fuse: 9, choice: 5 });
+    shelf.lose(1)?;
+    assert!(rt; holds(&mut shelf, 0, 0, 1) && shelf.flush(0) == Ok(()));
+    assert!(rt; all_answer(&mut shelf, 1, 0, Err(Failure::Absent)));
+    assert_eq!(rt; (shelf.fuse(), shelf.choice()), (4, 5));
+    shelf.restart();
+    assert_eq!(rt; (shelf.fuse(), shelf.choice()), (NEVER, 5));
+    // a fuse one below never is one like others
+    shelf.set_fuse(NEVER - 1);
+    assert!(rt; shelf.flush(0) == Ok(()));
+    assert_eq!(rt; shelf.fuse(), NEVER - 2);
+    Ok(())
+}
+
+// What is cut: a flush settles nothing, a read leaves its buffer, and a loss at the same operation is there all the same.
+#[test]
+fn cut_operations(rt: HostRuntime) -> Result<(), Fail> {
+    let mut shelf = TrialShelf::blank(rt.alloc(), 2, 1)?;
+    put(&mut shelf, 0, 0, 1)?;
+    shelf.set_fuse(0);
+    assert!(rt; shelf.flush(0) == Err(Failure::Off) && shelf.restart());
+    assert!(rt; holds(&mut shelf, 0, 0, 0));
+    let old = pattern(0, 9);
+    let mut content = old;
+    shelf.set_fuse(0);
+    assert!(rt; shelf.read(0, 0, &mut content) == Err(Failure::Off) && content == old);
+    shelf.restart();
+    shelf.set_fuse(0);
+    shelf.lose(1)?;
+    // an absent member takes nothing, and no restart brings it back
+    assert!(rt; put(&mut shelf, 1, 0, 2) == Err(Failure::Off) && !shelf.is_present(1));
+    assert!(rt; shelf.restart() && !shelf.is_present(1) && shelf.is_present(0));
+    let run = shelf.into_bytes();
+    assert!(rt; (0..4usize).all(|at| lies_at(&run, at, 0)));
     Ok(())
 }
