@@ -3,3 +3,4 @@ pub mod Firsts
 pub mod Looking
 pub mod Misplaced
 pub mod Sectors
+pub mod Showing

@@ -1,4 +1,5 @@
 pub mod Contents
+pub mod Showing
 pub mod Disks
 pub mod Effects
 pub mod Histories

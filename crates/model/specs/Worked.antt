@@ -14,12 +14,14 @@ use Rattle.shelf.specs.Meaning.{Meaning}
 use Rattle.stage.specs.declared.phase.Phase.{Phase}
 use Rattle.stage.specs.declared.phase.Phase.TheVariants.{Before, Moving, After, Shut}
 use Rattle.model.specs.declared.count.Told.{Told}
-use Rattle.model.specs.declared.request.Request.TheVariants.{Write, Begin, Keep, Copy, Settle, Finish, Open}
-use Rattle.model.specs.declared.request.Answered.TheVariants.{Met}
+use Rattle.model.specs.declared.request.Request.TheVariants.{Read, Write, Begin, Keep, Copy, Settle, Finish, Open}
+use Rattle.model.specs.declared.request.Request.{Request}
+use Rattle.model.specs.declared.request.Answered.{Answered}
+use Rattle.model.specs.declared.request.Answered.TheVariants.{Granted, Refused, Met}
 use Rattle.model.specs.Contents.{home_in}
 use Rattle.model.specs.Disks.{Disk, after, disk_of, granted, refused}
 use Rattle.model.specs.Effects.{content_of, created_over, left_by, parity_with, redone}
-use Rattle.model.specs.Histories.{chosen}
+use Rattle.model.specs.Histories.{Event, Law, Lacks, chosen, due, taken_after}
 use Rattle.model.specs.Knowing.{Volume}
 use Rattle.model.specs.Opening.{open_verdict}
 use Rattle.model.specs.Strays.{misplaced, strays}
@@ -217,6 +219,45 @@ pub record OpenExamples : Type 0 where
   pub borne : opens (first_head Idle None) last (label 1) ≡ None
   pub numbers : opens (last_head Idle (Some 1)) all (label 1) ≡ Some NumbersSpent
   pub unarmed : opens (last_head Idle None) all (label 1) ≡ None
+
+-- a call of a volume of mirrors on this shelf, as it was seen
+abbrev seen : Request → Answered → Option Refusal → List ℕ → Meaning → Event
+seen r answered refusal given a = record {
+  request = r;
+  answered = answered;
+  refusal = refusal;
+  given = given;
+  rows = 0;
+  kept = 0;
+  shelf = a;
+  told = told;
+  source = mirror;
+  target = stripe;
+}
+
+abbrev blank : ℕ → ℕ → List ℕ
+blank k s = replicate 512 0
+
+-- under way with so many rows settled and kept
+abbrev walking : (settled kept : ℕ) → Disk
+walking p q = disk_of ((7 ∷ []) ∷ (8 ∷ []) ∷ []) Moving p q None
+
+pub record RunExamples : Type 0 where
+  pub stays : taken_after (seen (Read 1) Granted None [] (shelf_of true all right)) true ≡ true
+  pub met : taken_after (seen (Read 1) Met (Some PowerLost) [] (shelf_of false all right)) true ≡ false
+  pub still_open : taken_after (seen (Read 1) Refused (Some PowerLost) [] (shelf_of false all right)) false ≡ false
+  pub opened : taken_after (seen Open Granted None [] (shelf_of true all right)) false ≡ true
+  pub not_opened : taken_after (seen Open Refused (Some LabelsDiffer) [] (shelf_of true all right)) true ≡ false
+  pub keep_due : due Keep mirror stripe (walking 0 0)
+  pub copy_due : due Copy mirror stripe (walking 0 1)
+  pub finish_due : due Finish mirror stripe (walking 1 1)
+  pub copy_not_due : due Copy mirror stripe (walking 0 0) → ⊥
+  pub lacks : Lacks (Some NumbersSpent)
+  -- a volume that was just created is read, and then its power goes at a read
+  pub run : Law 1 2 (seen (Read 1) Granted None (replicate 512 0) (shelf_of true all blank) ∷ seen (Read 0) Met (Some PowerLost) [] (shelf_of false all blank) ∷ [])
+  -- a read that gives something else breaks the law, and so does a shelf that shows something else
+  pub other_read : Law 1 2 (seen (Read 1) Granted None [] (shelf_of true all blank) ∷ []) → ⊥
+  pub other_shelf : Law 1 2 (seen (Read 1) Granted None (replicate 512 0) (shelf_of true all right) ∷ []) → ⊥
 
 pub record DiskExamples : Type 0 where
   pub written : (granted (Write 1 (5 ∷ [])) disk).content 1 ≡ 5 ∷ []

@@ -1,9 +1,10 @@
 // What a volume is to show, by the meaning of its shelf and its layouts alone.
 #![tactic(auto)]
 
-ghost use Rattle.model.specs.Worked.{CountExamples, DiskExamples, EffectExamples, HomeExamples, OpenExamples, VerdictExamples};
+ghost use Rattle.model.specs.Worked.{CountExamples, DiskExamples, EffectExamples, HomeExamples, OpenExamples, RunExamples, VerdictExamples};
 
 pub mod call;
+pub mod candidates;
 pub mod count;
 pub mod disk;
 mod first;
@@ -18,5 +19,6 @@ pub fn worked_examples()
     ensures disks { DiskExamples }
     ensures effects { EffectExamples }
     ensures opens { OpenExamples }
+    ensures runs { RunExamples }
     ensures verdicts { VerdictExamples }
 {}
