@@ -85,12 +85,16 @@ impl<S: Shelf, L: Layout> Volume<S, L> {
         shelf
     }
 
-    pub fn shelf(&self) -> &S {
+    pub fn shelf(&self) -> &S
+        ensures { result.now ≡ shelf_of self.now }
+    {
         &self.shelf
     }
 
     // The shelf, for what is no operation, as setting a trial shelf's fuse.
-    pub fn shelf_mut(&mut self) -> &mut S {
+    pub fn shelf_mut(&mut self) -> &mut S
+        ensures { result.now ≡ shelf_of self.old }
+    {
         &mut self.shelf
     }
 
