@@ -167,7 +167,7 @@ impl<S: Rig + Drop> Run<S> {
     // Whether the layouts in force bear a loss, where none was lost yet.
     fn bears_loss(&self) -> bool {
         let (source, target) = (self.ends.source.loss() > 0, self.ends.target.loss() > 0);
-        match self.ledger.disk.phase() {
+        match self.ledger.disk().phase() {
             Phase::Before => source,
             Phase::Moving => source && target,
             Phase::After => target,

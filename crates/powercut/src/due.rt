@@ -63,7 +63,7 @@ impl<S: Rig + Drop> Run<S> {
 
     // None where the disk is not moving, or has a row in hand.
     fn next(&self) -> Option<Next> {
-        let disk = &self.ledger.disk;
+        let disk = self.ledger.disk();
         let (source, target) = (&self.ends.source, &self.ends.target);
         match (disk.phase(), disk.hand()) {
             (Phase::Moving, None) if disk.settled() >= target.rows() => Some(Next::Finish),
@@ -101,7 +101,7 @@ impl<S: Rig + Drop> Run<S> {
 
     // A grant that is held with no row in hand goes back before another is taken.
     fn stale(&self) -> Option<Request> {
-        match self.ledger.disk.hand() {
+        match self.ledger.disk().hand() {
             Some(_) => None,
             None => self.held().map(Request::HandBack),
         }
@@ -109,7 +109,7 @@ impl<S: Rig + Drop> Run<S> {
 
     // The call by which the run goes on; None where the move is over, and the volume opened with the target as its source.
     pub fn due(&self) -> Option<Request> {
-        match (self.ledger.disk.phase(), self.held()) {
+        match (self.ledger.disk().phase(), self.held()) {
             (Phase::Moving, Some(row)) => Some(Request::Settle(row)),
             (Phase::Moving, None) => Some(self.next().map_or(Request::Open, |next| next.request())),
             (Phase::Before, _) => (self.ends == self.of.ends).then_some(Request::Begin),
@@ -140,7 +140,7 @@ impl<S: Rig + Drop> Run<S> {
 
     // The sectors that live in a home.
     fn living(&self, home: Home) -> Range<u64> {
-        let disk = &self.ledger.disk;
+        let disk = self.ledger.disk();
         let (settled, kept) = match disk.phase() {
             Phase::Before | Phase::Shut(_) => (0, 0),
             Phase::After => (disk.size(), 0),

@@ -7,7 +7,6 @@ use answer::{Refusal, Refused};
 use kinds::stock::Stock;
 use layout::Layout;
 use model::count::{Told, strays};
-use model::disk::Disk;
 use model::fresh::misplaced;
 use model::request::Request;
 use overlap::live_rows;
@@ -129,7 +128,7 @@ impl<S: Rig + Drop> Run<S> {
         let mut buffer = UNREAD;
         let answer = self.volume.read(sector, &mut buffer);
         let due = match answer {
-            Ok(()) => self.ledger.disk.sector(sector),
+            Ok(()) => self.ledger.disk().sector(sector),
             Err(_) => UNREAD,
         };
         if buffer != due {
@@ -150,7 +149,7 @@ impl<S: Rig + Drop> Run<S> {
     // A granted finish counts every target row, and no more source rows than are live.
     fn finish(&mut self) -> Result<(), Refused> {
         let Finished { rows, kept } = self.volume.finish()?;
-        let disk = &self.ledger.disk;
+        let disk = self.ledger.disk();
         let live = live_rows(&self.ends.source, disk.size());
         if rows != self.ends.target.rows()
             || (rows, kept) != (disk.settled(), disk.kept())
@@ -187,7 +186,7 @@ impl<S: Rig + Drop> Run<S> {
     fn follow(&mut self, request: &Request, answer: Result<(), Refused>) -> Result<(), AllocError> {
         match answer {
             Ok(()) => self.follow_grant(request),
-            Err(_) if matches!(request, Request::Open) => self.ledger.wait(self.heap),
+            Err(_) if matches!(request, Request::Open) => self.ledger.wait(),
             Err(Refused { fault: None, .. }) => self.ledger.refuse(request),
             Err(_) => self.ledger.tear(self.heap, request)?,
         }
@@ -209,38 +208,30 @@ impl<S: Rig + Drop> Run<S> {
     // At a granted finish every used place is as in a fresh placement.
     fn count_misplaced(&mut self) {
         let (shelf, target) = (self.volume.shelf(), &self.ends.target);
-        let misplaced = misplaced(shelf, target, self.of.backup, &self.ledger.disk);
+        let misplaced = misplaced(shelf, target, self.of.backup, self.ledger.disk());
         if misplaced > 0 {
             self.find(Wrong::Misplaced(misplaced));
         }
     }
 
-    // After a granted open: goes on from the first disk that the shelf shows, or else from the first of all.
     fn choose(&mut self) {
-        let further = self.ledger.let_go(self.heap);
-        if self.strays(&self.ledger.disk) == 0 {
-            return;
-        }
-        for disk in further {
-            if self.strays(&disk) == 0 {
-                self.ledger.disk = disk;
-                return;
-            }
-        }
+        let told = self.told();
+        let Ends { source, target } = self.ends;
+        let backup = self.of.backup;
+        let shelf = self.volume.shelf();
+        self.ledger.choose(shelf, &source, &target, backup, &told);
     }
 
-    // The stray count against a disk.
-    fn strays(&self, disk: &Disk) -> u64 {
+    // What the volume tells of itself.
+    fn told(&self) -> Told {
         let volume = &self.volume;
-        let told = Told {
+        Told {
             size: volume.size(),
             phase: volume.phase(),
             settled: volume.settled(),
             kept: volume.kept(),
             hand: volume.hand(),
-        };
-        let Ends { source, target } = &self.ends;
-        strays(volume.shelf(), source, target, self.of.backup, &told, disk).unwrap_or(1)
+        }
     }
 
     // Takes the stray count, where it is to be taken.
@@ -248,9 +239,14 @@ impl<S: Rig + Drop> Run<S> {
         if self.ledger.is_torn() {
             return;
         }
-        let strays = self.strays(&self.ledger.disk);
-        if strays > 0 {
-            self.find(Wrong::Strays(strays));
+        let told = self.told();
+        let Ends { source, target } = self.ends;
+        let backup = self.of.backup;
+        let shelf = self.volume.shelf();
+        let disk = self.ledger.disk();
+        let found = strays(shelf, &source, &target, backup, &told, disk).unwrap_or(1);
+        if found > 0 {
+            self.find(Wrong::Strays(found));
         }
     }
 
