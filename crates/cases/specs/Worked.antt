@@ -4,7 +4,8 @@ use Rattle.layout.specs.Geometry.{Geometry}
 use Rattle.kinds.specs.Cells.{striped_cells, left_cells, near_cells, far_cells}
 use Rattle.kinds.specs.Chunked.{chunked}
 use Rattle.overlap.specs.Homes.{home_of}
-use Rattle.overlap.specs.Needs.{ahead_of, distance_of, reach_of}
+use Rattle.overlap.specs.Homes.{window_of}
+use Rattle.overlap.specs.Needs.{distance_of, reach_of}
 use Rattle.overlap.specs.declared.walk.Home.TheVariants.{Source, Target, Backup}
 
 -- parity on 3 members and on 4, chunk 1, depth 8; and on 3 members, chunk 1 and chunk 2, depth 4
@@ -44,6 +45,6 @@ pub record WorkedExamples : Type 0 where
   pub four_slots : (distance_of fine coarse 8 ≤ 4) × (3 < distance_of fine coarse 8)
   -- members given back: the distance is met at row 3, and row 0 alone would ask for 3
   pub narrowed : distance_of wide narrow 12 ≡ 6
-  pub at_row : (ahead_of wide narrow 12 (reach_of wide narrow 12 3) 3 ≡ 6) × (ahead_of wide narrow 12 (reach_of wide narrow 12 0) 0 ≡ 3)
+  pub at_row : (window_of wide.row_len narrow.row_len 3 12 (reach_of wide narrow 12 3) ≡ 6) × (window_of wide.row_len narrow.row_len 0 12 (reach_of wide narrow 12 0) ≡ 3)
   -- no sectors, no distance, between any two layouts
   pub empty : (s t : Geometry) → distance_of s t 0 ≡ 0

@@ -5,13 +5,15 @@ use Rattle.std.specs.Int.{from_bool}
 use Rattle.std.specs.List.{between, splice}
 use Rattle.std.specs.Option.{is_some, unwrap_or}
 use Rattle.std.proofs.lemmas.List.{drop_more, drop-drop, drop-take, take-take, take_all}
-use Rattle.layout.specs.Bytes.{le, from_le, label_bytes, label_of}
+use Rattle.sector.specs.Bytes.{le, from_le}
+use Rattle.layout.specs.Bytes.{label_bytes, label_from}
 use Rattle.layout.specs.declared.label.Label.{Label}
 use Rattle.head.specs.Fields.{clear, NumberAt, LabelAt}
-use Rattle.head.specs.Heads.{IdleBare, UnarmedBare, Accepted, Fits, head_bytes, no_label, phase_of, target_of, settled_of, kept_of, armed_of, logged_of}
+use Rattle.head.specs.Heads.{IdleBare, UnarmedBare, Accepted, Fits, head_bytes, no_label, phase_byte, target_label, settled_rows, kept_rows, armed_byte, logged_number}
 use Rattle.head.specs.declared.state.Head.{Head}
 use Rattle.head.specs.declared.state.Progress.{Progress}
 use Rattle.head.specs.declared.state.Progress.TheVariants.{Idle, Moving}
+use Rattle.head.specs.declared.TheConstants.{MOST_BACKUP, MOST_NUMBER}
 
 -- zeros as numbers and labels
 
@@ -19,7 +21,7 @@ no_label_lem : label_bytes no_label ≡ clear 16
 unfolding le clear
 no_label_lem = refl
 
-no_label_fits : label_of (label_bytes no_label) ≡ no_label
+no_label_fits : label_from (label_bytes no_label) ≡ no_label
 unfolding le from_le
 no_label_fits = refl
 
@@ -52,16 +54,16 @@ pub ruleset bare = (idle_target, idle_settled, idle_kept, unarmed_logged)
 
 -- each field of the head stands at its place
 pub record Placed (bs : List ℕ) (h : Head) : Type 0 where
-  pub phase : phase_of h.progress ≡ get_or bs 3 0
-  pub armed : armed_of h.armed ≡ get_or bs 4 0
+  pub phase : phase_byte h.progress ≡ get_or bs 3 0
+  pub armed : armed_byte h.armed ≡ get_or bs 4 0
   pub number : le 8 h.number ≡ between 8 16 bs
   pub source : label_bytes h.source ≡ between 16 32 bs
-  pub target : label_bytes (target_of h.progress) ≡ between 32 48 bs
+  pub target : label_bytes (target_label h.progress) ≡ between 32 48 bs
   pub size : le 8 h.size ≡ between 48 56 bs
-  pub settled : le 8 (settled_of h.progress) ≡ between 56 64 bs
-  pub kept : le 8 (kept_of h.progress) ≡ between 64 72 bs
+  pub settled : le 8 (settled_rows h.progress) ≡ between 56 64 bs
+  pub kept : le 8 (kept_rows h.progress) ≡ between 64 72 bs
   pub backup : le 4 h.backup ≡ between 72 76 bs
-  pub logged : le 8 (logged_of h.armed) ≡ between 80 88 bs
+  pub logged : le 8 (logged_number h.armed) ≡ between 80 88 bs
 
 -- the fields at their places are the whole
 
@@ -70,7 +72,7 @@ five : (bs : List ℕ) → length bs ≡ 512
 five bs h = grind (arith, drop_more)
 
 start : (bs : List ℕ) (h : Head) → Accepted bs → Placed bs h
-    → 0x52 ∷ 0x48 ∷ 1 ∷ phase_of h.progress ∷ armed_of h.armed ∷ 0 ∷ 0 ∷ 0 ∷ [] ≡ take 8 bs
+    → 0x52 ∷ 0x48 ∷ 1 ∷ phase_byte h.progress ∷ armed_byte h.armed ∷ 0 ∷ 0 ∷ 0 ∷ [] ≡ take 8 bs
 unfolding clear
 start bs h a p =
     let e : take 8 bs ≡ get_or bs 0 0 ∷ get_or bs 1 0 ∷ get_or bs 2 0 ∷ get_or bs 3 0 ∷ get_or bs 4 0 ∷ take 3 (drop 5 bs) =
@@ -96,24 +98,24 @@ whole bs h a p =
 
 -- the fields that are written at their places, from zeros on, are the whole
 
-pub logged_some : (a : Option ℕ) → unwrap_or a 0 ≡ logged_of a
+pub logged_some : (a : Option ℕ) → unwrap_or a 0 ≡ logged_number a
 logged_some None = refl
 logged_some (Some i) = refl
 
-pub armed_some : (a : Option ℕ) → from_bool (is_some a) ≡ armed_of a
+pub armed_some : (a : Option ℕ) → from_bool (is_some a) ≡ armed_byte a
 armed_some None = refl
 armed_some (Some i) = refl
 
 pub written : (h : Head) (b c d e f g i j k : List ℕ)
     → c ≡ splice b 8 16 (le 8 h.number)
     → d ≡ splice c 16 32 (label_bytes h.source)
-    → e ≡ splice d 32 48 (label_bytes (target_of h.progress))
+    → e ≡ splice d 32 48 (label_bytes (target_label h.progress))
     → f ≡ splice e 48 56 (le 8 h.size)
-    → g ≡ splice f 56 64 (le 8 (settled_of h.progress))
-    → i ≡ splice g 64 72 (le 8 (kept_of h.progress))
+    → g ≡ splice f 56 64 (le 8 (settled_rows h.progress))
+    → i ≡ splice g 64 72 (le 8 (kept_rows h.progress))
     → j ≡ splice i 72 76 (le 4 h.backup)
-    → k ≡ splice j 80 88 (le 8 (logged_of h.armed))
-    → b ≡ 0x52 ∷ 0x48 ∷ 1 ∷ phase_of h.progress ∷ armed_of h.armed ∷ replicate 507 0
+    → k ≡ splice j 80 88 (le 8 (logged_number h.armed))
+    → b ≡ 0x52 ∷ 0x48 ∷ 1 ∷ phase_byte h.progress ∷ armed_byte h.armed ∷ replicate 507 0
     → k ≡ head_bytes h
 unfolding clear le
 written h b c d e f g i j k ec ed ee ef eg ei ej ek eb =
@@ -136,19 +138,19 @@ placed h = record {
   logged = refl;
 }
 
-flag_phase : (p : Progress) → phase_of p ≤ 1
+flag_phase : (p : Progress) → phase_byte p ≤ 1
 flag_phase Idle = omega arith
 flag_phase (Moving t s k) = omega arith
 
-flag_armed : (o : Option ℕ) → armed_of o ≤ 1
+flag_armed : (o : Option ℕ) → armed_byte o ≤ 1
 flag_armed None = omega arith
 flag_armed (Some i) = omega arith
 
-idle_only : (p : Progress) → phase_of p ≡ 0 → p ≡ Idle
+idle_only : (p : Progress) → phase_byte p ≡ 0 → p ≡ Idle
 idle_only Idle e = refl
 idle_only (Moving t s k) e = absurd (omega (arith, e))
 
-unarmed_only : (o : Option ℕ) → armed_of o ≡ 0 → o ≡ None
+unarmed_only : (o : Option ℕ) → armed_byte o ≡ 0 → o ≡ None
 unarmed_only None e = refl
 unarmed_only (Some i) e = absurd (omega (arith, e))
 
@@ -178,10 +180,10 @@ accepted h f =
 -- the bytes of a head say which head it is
 
 abbrev Numbered : ℕ → Type 0
-Numbered n = (1 ≤ n) × (n ≤ 9223372036854775807)
+Numbered n = (1 ≤ n) × (n ≤ MOST_NUMBER)
 
 abbrev Backed : ℕ → Type 0
-Backed b = (1 ≤ b) × (b ≤ 4096)
+Backed b = (1 ≤ b) × (b ≤ MOST_BACKUP)
 
 abbrev build : (n : ℕ) (s : Label) (p : Progress) (z b : ℕ) (a : Option ℕ) → Numbered n → Backed b → Head
 build n s p z b a u v = record {
@@ -208,14 +210,14 @@ same_head h k en es ep ez eb ea =
     (λ v. same_build h.number h.source h.progress h.size h.backup h.armed h.numbered u h.backed v
     ∙ (λ i. build h.number (es i) (ep i) (ez i) h.backup (ea i) u v)) k.backed) k.numbered
 
-same_progress : (p q : Progress) → phase_of p ≡ phase_of q → target_of p ≡ target_of q → settled_of p ≡ settled_of q
-    → kept_of p ≡ kept_of q → p ≡ q
+same_progress : (p q : Progress) → phase_byte p ≡ phase_byte q → target_label p ≡ target_label q → settled_rows p ≡ settled_rows q
+    → kept_rows p ≡ kept_rows q → p ≡ q
 same_progress Idle Idle e t s k = refl
 same_progress Idle (Moving t' s' k') e t s k = absurd (omega (arith, e))
 same_progress (Moving t' s' k') Idle e t s k = absurd (omega (arith, e))
 same_progress (Moving t' s' k') (Moving t'' s'' k'') e t s k = λ i. Moving (t i) (s i) (k i)
 
-same_armed : (a b : Option ℕ) → armed_of a ≡ armed_of b → logged_of a ≡ logged_of b → a ≡ b
+same_armed : (a b : Option ℕ) → armed_byte a ≡ armed_byte b → logged_number a ≡ logged_number b → a ≡ b
 same_armed None None e l = refl
 same_armed None (Some i) e l = absurd (omega (arith, e))
 same_armed (Some i) None e l = absurd (omega (arith, e))
@@ -227,9 +229,9 @@ one_head h k f g e =
     let q : Placed (head_bytes h) k = subst (λ bs. Placed bs k) (sym e) (placed k) in
     same_head h k
     (sym f.number ∙ (ap from_le (p.number ∙ sym q.number) ∙ g.number))
-    (sym f.source ∙ (ap label_of (p.source ∙ sym q.source) ∙ g.source))
+    (sym f.source ∙ (ap label_from (p.source ∙ sym q.source) ∙ g.source))
     (same_progress h.progress k.progress (p.phase ∙ sym q.phase)
-    (sym f.target ∙ (ap label_of (p.target ∙ sym q.target) ∙ g.target))
+    (sym f.target ∙ (ap label_from (p.target ∙ sym q.target) ∙ g.target))
     (sym f.settled ∙ (ap from_le (p.settled ∙ sym q.settled) ∙ g.settled))
     (sym f.kept ∙ (ap from_le (p.kept ∙ sym q.kept) ∙ g.kept)))
     (sym f.size ∙ (ap from_le (p.size ∙ sym q.size) ∙ g.size))

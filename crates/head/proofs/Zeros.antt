@@ -2,11 +2,11 @@
 use Rattle.std.proofs.Common.{◌≡◌, ℕ, ◌<◌, Bool, true, false, List, length, get_or, ap, ◌∙◌, sym, MatchBool, arith}
 use Rattle.std.specs.List.{AllWithin, HoldsAt}
 use Rattle.std.proofs.lemmas.List.{ext_get_or, length-replicate, get_or-replicate}
-use Rattle.head.specs.Fields.{Tells, clear}
+use Rattle.head.specs.Fields.{Decided, clear}
 
 pub tells_clear : (r : Bool) (bs : List ℕ)
     → MatchBool r (AllWithin (λ b. b ≡ 0) bs 0 (length bs)) ((k : ℕ) × (k < length bs) × HoldsAt (λ b. b ≡ 0 → ⊥) bs k)
-    → Tells r (bs ≡ clear (length bs))
+    → Decided r (bs ≡ clear (length bs))
 unfolding clear
 tells_clear true bs all =
     ext_get_or 0 bs _ (sym (length-replicate (length bs) 0))

@@ -3,10 +3,11 @@ use Rattle.std.specs.Prelude.{◌≡◌, ℕ, ◌+◌, ◌<◌, ◌≤◌, Some,
 use Rattle.layout.specs.declared.label.Label.{Label}
 use Rattle.head.specs.declared.state.Head.{Head}
 use Rattle.head.specs.declared.state.Progress.{Progress}
+use Rattle.head.specs.declared.TheConstants.{MOST_NUMBER}
 
 -- k is the checkpoint after h with this source, this progress and this logged sector
 pub record Next (h : Head) (s : Label) (p : Progress) (a : Option ℕ) (k : Head) : Type 0 where
-  pub left : h.number < 9223372036854775807
+  pub left : h.number < MOST_NUMBER
   pub number : k.number ≡ h.number + 1
   pub source : k.source ≡ s
   pub progress : k.progress ≡ p

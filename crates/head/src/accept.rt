@@ -1,7 +1,7 @@
 // Which sectors are a head.
 ghost use Rattle.std.specs.Prelude.{◌≡◌, MatchOption};
-ghost use Rattle.head.specs.Fields.{Tells};
-ghost use Rattle.head.specs.Heads.{Accepted, Marked, Flagged, Gapped, Ranged, IdleBare, UnarmedBare};
+ghost use Rattle.head.specs.Fields.{Decided};
+ghost use Rattle.head.specs.Heads.{Accepted, Marked, Flagged, Gapped, NumbersInLimits, IdleBare, UnarmedBare};
 
 use crate::part::{field_at, is_clear};
 use crate::{
@@ -31,7 +31,7 @@ impl<'a> HeadSector<'a> {
 }
 
 fn is_accepted(bytes: &Sector) -> bool
-    ensures { Tells result (Accepted bytes.now) }
+    ensures { Decided result (Accepted bytes.now) }
 {
     is_marked(bytes)
         && has_flags(bytes)
@@ -42,21 +42,21 @@ fn is_accepted(bytes: &Sector) -> bool
 }
 
 fn is_marked(bytes: &Sector) -> bool
-    ensures { Tells result (Marked bytes.now) }
+    ensures { Decided result (Marked bytes.now) }
 {
     bytes.starts_with(&MARK) && bytes[EDITION_AT] == EDITION
 }
 
 // Whether the phase and the armed byte are 0 or 1.
 fn has_flags(bytes: &Sector) -> bool
-    ensures { Tells result (Flagged bytes.now) }
+    ensures { Decided result (Flagged bytes.now) }
 {
     bytes[PHASE_AT] <= 1 && bytes[ARMED_AT] <= 1
 }
 
 // Zeros where the format says nothing.
 fn has_clear_gaps(bytes: &Sector) -> bool
-    ensures { Tells result (Gapped bytes.now) }
+    ensures { Decided result (Gapped bytes.now) }
 {
     is_clear(&bytes[ARMED_AT + 1..NUMBER_AT])
         && is_clear(&bytes[BACKUP_AT + 4..LOGGED_AT])
@@ -65,7 +65,7 @@ fn has_clear_gaps(bytes: &Sector) -> bool
 
 // The number and the backup slots.
 fn is_in_range(bytes: &Sector) -> bool
-    ensures { Tells result (Ranged bytes.now) }
+    ensures { Decided result (NumbersInLimits bytes.now) }
 {
     let number: u64 = field_at(bytes, NUMBER_AT);
     let backup: u32 = field_at(bytes, BACKUP_AT);
@@ -74,7 +74,7 @@ fn is_in_range(bytes: &Sector) -> bool
 
 // An idle head has no target and no rows.
 fn is_bare_if_idle(bytes: &Sector) -> bool
-    ensures { Tells result (IdleBare bytes.now) }
+    ensures { Decided result (IdleBare bytes.now) }
 {
     bytes[PHASE_AT] != 0
         || is_clear(&bytes[TARGET_AT..SIZE_AT]) && is_clear(&bytes[SETTLED_AT..BACKUP_AT])
@@ -82,7 +82,7 @@ fn is_bare_if_idle(bytes: &Sector) -> bool
 
 // An unarmed head has no logged sector.
 fn is_bare_if_unarmed(bytes: &Sector) -> bool
-    ensures { Tells result (UnarmedBare bytes.now) }
+    ensures { Decided result (UnarmedBare bytes.now) }
 {
     bytes[ARMED_AT] != 0 || is_clear(&bytes[LOGGED_AT..TAIL_AT])
 }

@@ -9,7 +9,7 @@ use layout::label::Label;
 impl Head {
     // The head of the next checkpoint, with the size and the backup as they are; None where no number is left.
     pub fn next(&self, source: Label, progress: Progress, armed: Option<u64>) -> Option<Head>
-        ensures { MatchOption result (self.now.number ≡ 9223372036854775807) (λ h. Next self.now source progress armed h) }
+        ensures { MatchOption result (self.now.number ≡ MOST_NUMBER) (λ h. Next self.now source progress armed h) }
     {
         if self.number >= MOST_NUMBER {
             return None;
@@ -27,7 +27,7 @@ impl Head {
 
     // How many checkpoints can still be numbered.
     pub fn numbers_left(&self) -> u64
-        ensures { result + self.now.number ≡ 9223372036854775807 }
+        ensures { result + self.now.number ≡ MOST_NUMBER }
     {
         MOST_NUMBER - self.number
     }

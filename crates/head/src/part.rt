@@ -1,10 +1,10 @@
 // Fields at their places in a sector.
 ghost use Rattle.std.specs.Prelude.{◌≡◌, ◌+◌, ◌≤◌, length};
 ghost use Rattle.std.specs.List.{between, splice};
-ghost use Rattle.head.specs.Fields.{Tells, clear};
+ghost use Rattle.head.specs.Fields.{Decided, clear};
 
-use layout::field::Field;
 use sector::Sector;
+use sector::field::Field;
 
 // Reads the field at a place.
 pub(crate) fn field_at<const WIDTH: usize, F: Field<WIDTH>>(bytes: &Sector, at: usize) -> F
@@ -31,7 +31,7 @@ pub(crate) fn put_field<const WIDTH: usize, F: Field<WIDTH>>(
 
 // Whether all the bytes are zero.
 pub(crate) fn is_clear(bytes: &[u8]) -> bool
-    ensures { Tells result (bytes.now ≡ clear (length bytes.now)) }
+    ensures { Decided result (bytes.now ≡ clear (length bytes.now)) }
 {
     bytes.iter().all(|byte| *byte == 0)
 }

@@ -1,6 +1,8 @@
 // What a head says.
 ghost use Rattle.std.specs.Prelude.{◌≤◌};
+ghost use Rattle.head.specs.declared.TheConstants.{MOST_BACKUP, MOST_NUMBER};
 
+use crate::{MOST_BACKUP, MOST_NUMBER};
 use layout::label::Label;
 
 // Whether the volume moves, and how far it has come: the target's settled rows and the source's kept rows.
@@ -29,6 +31,6 @@ pub struct Head {
     pub backup: u32,
     // the sector whose write stands in the log
     pub armed: Option<u64>,
-    ghost numbered: { (1 ≤ number) × (number ≤ 9223372036854775807) },
-    ghost backed: { (1 ≤ backup) × (backup ≤ 4096) },
+    ghost numbered: { (1 ≤ number) × (number ≤ MOST_NUMBER) },
+    ghost backed: { (1 ≤ backup) × (backup ≤ MOST_BACKUP) },
 }

@@ -9,9 +9,10 @@ use Rattle.kinds.specs.Cellular.{Cellular, RowParity}
 use Rattle.kinds.specs.Chunked.{chunked}
 use Rattle.kinds.specs.Chunks.{chunk_below, sector_chunk, some_factor}
 use Rattle.kinds.specs.declared.grid.Grid.{Grid}
+use Rattle.layout.specs.declared.TheConstants.{MOST_CAPACITY}
 
 -- r rows of l sectors
-pub room_most : {g : Grid} {s : Geometry} → Cellular g s → {r l : ℕ} → r ≡ s.rows → l ≡ g.chunk * s.row_len → r * l ≤ 268435456
+pub room_most : {g : Grid} {s : Geometry} → Cellular g s → {r l : ℕ} → r ≡ s.rows → l ≡ g.chunk * s.row_len → r * l ≤ MOST_CAPACITY
 room_most {g} {s} law {r} {l} rows len = omega (arith, ap₂ (λ x y. x * y) rows len, rows_most g s.rows s.row_len law.room)
 
 module _ {g : Grid} {s : Geometry} (law : Cellular g s) {a : Grid} (e : a ≡ g) where

@@ -5,9 +5,10 @@ use Rattle.std.proofs.Math.Nat.{le-mul_of_pos_right}
 use Rattle.std.proofs.lemmas.Nat.{mul-le, le-div, div_below, mod_below}
 use Rattle.kinds.specs.CellsLemmas.{cell_below, chunk_below}
 use Rattle.kinds.specs.declared.grid.Grid.{Grid}
+use Rattle.layout.specs.declared.TheConstants.{MOST_CAPACITY, MOST_DEPTH}
 
 -- an offset in row q
-pub offset_most : (g : Grid) (q i : ℕ) → q < g.chunks → q * g.chunk + i % g.chunk < 16777216
+pub offset_most : (g : Grid) (q i : ℕ) → q < g.chunks → q * g.chunk + i % g.chunk < MOST_DEPTH
 offset_most g q i k =
     omega (arith, cell_below q g.chunk (i % g.chunk) g.chunks k (mod_below i g.chunk (omega arith)), mul_comm g.chunk g.chunks)
 
@@ -25,20 +26,20 @@ peer_cell g q d a x y z =
     omega (arith, mul-le q d q g.members (omega arith) y, cell_below q g.members a g.chunks x z)
 
 -- the sectors of all chunks
-pub grid_most : (g : Grid) → g.chunks * g.members * g.chunk ≤ 268435456
+pub grid_most : (g : Grid) → g.chunks * g.members * g.chunk ≤ MOST_CAPACITY
 grid_most g =
-    omega (arith, mul_right_comm g.chunks g.members g.chunk, mul_comm g.chunks g.chunk, mul-le (g.chunk * g.chunks) g.members 16777216 16 (omega arith) (omega arith))
+    omega (arith, mul_right_comm g.chunks g.members g.chunk, mul_comm g.chunks g.chunk, mul-le (g.chunk * g.chunks) g.members MOST_DEPTH 16 (omega arith) (omega arith))
 
-pub cells_most : (g : Grid) → g.chunks * g.members ≤ 268435456
+pub cells_most : (g : Grid) → g.chunks * g.members ≤ MOST_CAPACITY
 cells_most g = omega (arith, grid_most g, le-mul_of_pos_right {m = g.chunk} (g.chunks * g.members) (omega arith))
 
 -- the sectors of q rows of w chunks, which are no more chunks than all
-pub rows_most : (g : Grid) (q w : ℕ) → q * w ≤ g.chunks * g.members → q * (g.chunk * w) ≤ 268435456
+pub rows_most : (g : Grid) (q w : ℕ) → q * w ≤ g.chunks * g.members → q * (g.chunk * w) ≤ MOST_CAPACITY
 rows_most g q w k =
     omega (arith, grid_most g, mul_comm g.chunk w, mul_assoc q w g.chunk, mul-le (q * w) g.chunk (g.chunks * g.members) g.chunk k (omega arith))
 
 -- a sector of chunk k
-pub sector_most : (g : Grid) (k o : ℕ) → k < g.chunks * g.members → k * g.chunk + o % g.chunk < 268435456
+pub sector_most : (g : Grid) (k o : ℕ) → k < g.chunks * g.members → k * g.chunk + o % g.chunk < MOST_CAPACITY
 sector_most g k o h =
     omega (arith, grid_most g, cell_below k g.chunk (o % g.chunk) (g.chunks * g.members) h (mod_below o g.chunk (omega arith)))
 

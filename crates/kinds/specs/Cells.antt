@@ -45,12 +45,12 @@ far_cells n h f = mirrored n h f n (h / f)
     (λ p. on_grid n h p (cond (nat_lt (p.1 / (h / f)) f) (Datum (p.1 % (h / f) * n + (p.0 + n - p.1 / (h / f)) % n) (p.1 / (h / f))) Nobody))
 
 -- Left-symmetric: row s has its parity on member n - 1 - s mod n, and its data from the next member on.
-abbrev pub parity_member_lem : ℕ → ℕ → ℕ
-parity_member_lem n s = n - 1 - s % n
+abbrev pub parity_on : ℕ → ℕ → ℕ
+parity_on n s = n - 1 - s % n
 
 -- how many members the member m is after the one with the data's start
 abbrev pub after_parity : ℕ → ℕ → ℕ → ℕ
-after_parity n s m = (m + n - parity_member_lem n s - 1) % n
+after_parity n s m = (m + n - parity_on n s - 1) % n
 
 abbrev pub left_cells : ℕ → ℕ → Geometry
 left_cells n h = record {
@@ -61,10 +61,10 @@ left_cells n h = record {
   row_len = n - 1;
   rows = h;
   groups = h;
-  datum = λ k j. ((parity_member_lem n (k / (n - 1)) + 1 + k % (n - 1)) % n, k / (n - 1));
+  datum = λ k j. ((parity_on n (k / (n - 1)) + 1 + k % (n - 1)) % n, k / (n - 1));
   group = λ k. k / (n - 1);
   peers = λ s. n - 1;
   peer = λ s a. s * (n - 1) + a;
-  parity = λ s. (parity_member_lem n s, s);
-  owner = λ p. on_grid n h p (cond (p.0 == parity_member_lem n p.1) (Parity p.1) (Datum (p.1 * (n - 1) + after_parity n p.1 p.0) 0));
+  parity = λ s. (parity_on n s, s);
+  owner = λ p. on_grid n h p (cond (p.0 == parity_on n p.1) (Parity p.1) (Datum (p.1 * (n - 1) + after_parity n p.1 p.0) 0));
 }

@@ -99,8 +99,8 @@ joined c g h law i s lt =
     }
 
 -- the row of a sector is the row of its chunk
-row_of : (c k r l : ℕ) → r < c → (k * c + r) / (c * l) ≡ k / l
-row_of c k r l b = sym (div-div-eq-div-mul (k * c + r) c l) ∙ ap (λ x. x / l) (div-mul-add k c r b)
+chunk_row : (c k r l : ℕ) → r < c → (k * c + r) / (c * l) ≡ k / l
+chunk_row c k r l b = sym (div-div-eq-div-mul (k * c + r) c l) ∙ ap (λ x. x / l) (div-mul-add k c r b)
 
 peer_is : (c : ℕ) (g : Geometry) → 1 ≤ c → Grouping g → (x a : ℕ) → x < c * g.groups → a < g.peers (x / c) → Peer (chunked c g) x a
 peer_is c g h law x a lt below =
@@ -109,7 +109,7 @@ peer_is c g h law x a lt below =
     record {
       sector = chunk_sector c g (g.peer (x / c) a) (x % c) first.sector b;
       group = simp (div-mul-add, mod-mul-add) (ap (λ k. k * c + x % c) first.group ∙ div-add-mod' x c);
-      row = row_of c (g.peer (x / c) a) (x % c) g.row_len b ∙ (first.row ∙ sym (row_of c (g.peer (x / c) 0) (x % c) g.row_len b));
+      row = chunk_row c (g.peer (x / c) a) (x % c) g.row_len b ∙ (first.row ∙ sym (chunk_row c (g.peer (x / c) 0) (x % c) g.row_len b));
     }
 
 -- the member of a peer is that of its chunk

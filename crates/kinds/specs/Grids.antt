@@ -6,5 +6,5 @@ abbrev pub Used : ℕ → ℕ → ℕ × ℕ → Type 0
 Used n h p = (p.0 < n) × (p.1 < h)
 
 -- its number, where the cells go round the members
-abbrev pub NumberAt : ℕ → ℕ → ℕ × ℕ → Option ℕ → Type 0
-NumberAt n h p r = MatchOption r (Used n h p → ⊥) (λ y. (y ≡ p.1 * n + p.0) × (y < h * n) × Used n h p)
+abbrev pub CellNumber : ℕ → ℕ → ℕ × ℕ → Option ℕ → Type 0
+CellNumber n h p r = MatchOption r (Used n h p → ⊥) (λ y. (y ≡ p.1 * n + p.0) × (y < h * n) × Used n h p)

@@ -12,8 +12,8 @@ use Rattle.kinds.specs.Cells.{on_grid, striped_cells, near_cells, far_cells}
 use Rattle.kinds.specs.CellsLemmas.{cell_below, copy_below}
 use Rattle.kinds.specs.Turns.{turns_apart, turn_back, turn_forth}
 
-pub on_grid_lem : (n h : ℕ) (p : ℕ × ℕ) (w : Owner) → p.0 < n → p.1 < h → on_grid n h p w ≡ w
-on_grid_lem n h p w a b = cond-true (nat_lt p.0 n) _ _ (lt-ltb p.0 n a) ∙ cond-true (nat_lt p.1 h) _ _ (lt-ltb p.1 h b)
+pub on_grid_inside : (n h : ℕ) (p : ℕ × ℕ) (w : Owner) → p.0 < n → p.1 < h → on_grid n h p w ≡ w
+on_grid_inside n h p w a b = cond-true (nat_lt p.0 n) _ _ (lt-ltb p.0 n a) ∙ cond-true (nat_lt p.1 h) _ _ (lt-ltb p.1 h b)
 
 pub owns_grid : (g : Geometry) (n h : ℕ) (p : ℕ × ℕ) (w : Owner) → (p.0 < n → p.1 < h → Owns g p w) → Owns g p (on_grid n h p w)
 owns_grid g n h p w own =
@@ -29,7 +29,7 @@ striped_back : (n h : ℕ) → 1 ≤ n → (o : Owner) → Is (striped_cells n h
 striped_back n h a (Datum k j) is =
     let c = cell n h k a is.0 in
     let z : 0 ≡ j = omega arith in
-    on_grid_lem n h (k % n, k / n) _ c.0 c.1 ∙ (ap (λ i. Datum i 0) (div-add-mod' k n) ∙ ap (λ i. Datum k i) z)
+    on_grid_inside n h (k % n, k / n) _ c.0 c.1 ∙ (ap (λ i. Datum i 0) (div-add-mod' k n) ∙ ap (λ i. Datum k i) z)
 striped_back n h a (Parity x) is = absurd (omega arith)
 striped_back n h a Nobody is = absurd is
 
@@ -56,7 +56,7 @@ near_back n h f a (Datum k j) is =
     let c = near_cell n h f k j a is.0 is.1 in
     let b : j < f = is.1 in
     let d : k < h * n / f = omega arith in
-    on_grid_lem n h ((k * f + j) % n, (k * f + j) / n) _ c.0 c.1
+    on_grid_inside n h ((k * f + j) % n, (k * f + j) / n) _ c.0 c.1
     ∙ simp (div-add-mod', div-mul-add, mod-mul-add) (cond-true (nat_lt k (h * n / f)) _ _ (lt-ltb k (h * n / f) d))
 near_back n h f a (Parity x) is = absurd (omega arith)
 near_back n h f a Nobody is = absurd is
@@ -94,7 +94,7 @@ far_back n h f a fn (Datum k j) is =
     let c = far_cell n h f k j a is.0 is.1 in
     let q : k / n < h / f = div_below k n (h / f) (omega arith) is.0 in
     let d : j < n = omega arith in
-    on_grid_lem n h ((k + j) % n, j * (h / f) + k / n) _ c.0 c.1
+    on_grid_inside n h ((k + j) % n, j * (h / f) + k / n) _ c.0 c.1
     ∙ simp (div-mul-add, mod-mul-add) (cond-true (nat_lt j f) _ _ (lt-ltb j f is.1)
     ∙ (ap (λ x. Datum (k / n * n + x) j) (turn_back k j n d) ∙ ap (λ x. Datum x j) (div-add-mod' k n)))
 far_back n h f a fn (Parity x) is = absurd (omega arith)

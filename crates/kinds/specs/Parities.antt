@@ -7,12 +7,12 @@ use Rattle.layout.specs.declared.place.Owner.{Owner}
 use Rattle.layout.specs.declared.place.Owner.TheVariants.{Datum, Parity, Nobody}
 use Rattle.layout.specs.Geometry.{Is, place_of}
 use Rattle.layout.specs.Lawful.{Inside, Owns, Placing, Grouping}
-use Rattle.kinds.specs.Cells.{parity_member_lem, after_parity, left_cells}
+use Rattle.kinds.specs.Cells.{parity_on, after_parity, left_cells}
 use Rattle.kinds.specs.CellsLemmas.{cell_below}
 use Rattle.kinds.specs.Turns.{round, turns_apart}
-use Rattle.kinds.specs.Mirrors.{on_grid_lem, owns_grid}
+use Rattle.kinds.specs.Mirrors.{on_grid_inside, owns_grid}
 
-parity_below : (n s : ℕ) → 1 ≤ n → parity_member_lem n s < n
+parity_below : (n s : ℕ) → 1 ≤ n → parity_on n s < n
 parity_below n s a = omega arith
 
 -- the data of a row never lie on the member with the parity
@@ -49,22 +49,22 @@ left_back : (n h : ℕ) → 3 ≤ n → (o : Owner) → Is (left_cells n h) o �
 left_back n h a (Datum k j) is =
     let s = k / (n - 1) in
     let i = k % (n - 1) in
-    let e = parity_member_lem n s in
+    let e = parity_on n s in
     let il : i < n - 1 = mod_below k (n - 1) (omega arith) in
     let el : e < n = parity_below n s (omega arith) in
     let z : 0 ≡ j = omega arith in
-    on_grid_lem n h ((e + 1 + i) % n, s) _ (mod_below (e + 1 + i) n (omega arith)) (div_below k (n - 1) h (omega arith) is.0)
+    on_grid_inside n h ((e + 1 + i) % n, s) _ (mod_below (e + 1 + i) n (omega arith)) (div_below k (n - 1) h (omega arith) is.0)
     ∙ (cond-false ((e + 1 + i) % n == e) _ _ (ne_eqb ((e + 1 + i) % n) e (beside e i n el il))
     ∙ (ap (λ x. Datum (s * (n - 1) + x) 0) (index_of e i n el il)
     ∙ (ap (λ x. Datum x 0) (div-add-mod' k (n - 1)) ∙ ap (λ x. Datum k x) z)))
 left_back n h a (Parity s) is =
-    on_grid_lem n h (parity_member_lem n s, s) _ (parity_below n s (omega arith)) is
-    ∙ cond-true (parity_member_lem n s == parity_member_lem n s) _ _ (eq-eqb (parity_member_lem n s) (parity_member_lem n s) refl)
+    on_grid_inside n h (parity_on n s, s) _ (parity_below n s (omega arith)) is
+    ∙ cond-true (parity_on n s == parity_on n s) _ _ (eq-eqb (parity_on n s) (parity_on n s) refl)
 left_back n h a Nobody is = absurd is
 
 left_owned : (n h : ℕ) → 3 ≤ n → (p : ℕ × ℕ) → Owns (left_cells n h) p ((left_cells n h).owner p)
 left_owned n h a p =
-    let e = parity_member_lem n p.1 in
+    let e = parity_on n p.1 in
     let el : e < n = parity_below n p.1 (omega arith) in
     owns_grid (left_cells n h) n h p _ (λ b c. cond_both (p.0 == e) _ _ (Owns (left_cells n h) p)
     (λ t. (c, ap (λ x. (x, p.1)) (sym (eqb-true p.0 e t))))
@@ -73,8 +73,8 @@ left_owned n h a p =
     let il : i < n - 1 = index_below e p.0 n el b (eqb-false p.0 e t) in
     ((cell_below p.1 (n - 1) i h c il, omega arith), left_place n p i il (member_of e p.0 n el b))))
   where
-    left_place : (n : ℕ) (p : ℕ × ℕ) (i : ℕ) → i < n - 1 → (parity_member_lem n p.1 + 1 + i) % n ≡ p.0
-        → ◌≡◌ {A = ℕ × ℕ} ((parity_member_lem n ((p.1 * (n - 1) + i) / (n - 1)) + 1 + (p.1 * (n - 1) + i) % (n - 1)) % n, (p.1 * (n - 1) + i) / (n - 1)) p
+    left_place : (n : ℕ) (p : ℕ × ℕ) (i : ℕ) → i < n - 1 → (parity_on n p.1 + 1 + i) % n ≡ p.0
+        → ◌≡◌ {A = ℕ × ℕ} ((parity_on n ((p.1 * (n - 1) + i) / (n - 1)) + 1 + (p.1 * (n - 1) + i) % (n - 1)) % n, (p.1 * (n - 1) + i) / (n - 1)) p
     left_place n p i il e = simp (div-mul-add, mod-mul-add, e)
 
 pub left_placing : (n h : ℕ) → 3 ≤ n → Placing (left_cells n h)
@@ -100,6 +100,6 @@ left_grouping n h a = record {
     row = div-mul-add s (n - 1) i below ∙ sym (div-mul-add s (n - 1) 0 (omega arith));
   };
   rise = λ s i k lt r below. omega arith;
-  peers_apart = λ s i k lt p q e. turns_apart (parity_member_lem n s + 1) i k n (omega arith) (omega arith) (simp (div-mul-add, mod-mul-add) at e);
-  parity_apart = λ s i lt p e. beside (parity_member_lem n s) i n (parity_below n s (omega arith)) p (sym (simp (div-mul-add, mod-mul-add) at e));
+  peers_apart = λ s i k lt p q e. turns_apart (parity_on n s + 1) i k n (omega arith) (omega arith) (simp (div-mul-add, mod-mul-add) at e);
+  parity_apart = λ s i lt p e. beside (parity_on n s) i n (parity_below n s (omega arith)) p (sym (simp (div-mul-add, mod-mul-add) at e));
 }

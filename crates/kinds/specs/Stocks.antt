@@ -1,13 +1,10 @@
--- The stock layouts: the label of each, the labels within the limits, and what each places where.
-use Rattle.std.specs.Prelude.{◌≡◌, ◌/◌, ◌≤◌, ◌⊎◌}
-use Rattle.layout.specs.Kinds.{kind_number}
+-- The stock layouts: the label of each, and what it places where.
 use Rattle.layout.specs.declared.kind.Kind.TheVariants as kind
 use Rattle.layout.specs.declared.label.Label.{Label}
 use Rattle.layout.specs.Geometry.{Geometry}
 use Rattle.kinds.specs.Cellular.{grid_label}
 use Rattle.kinds.specs.Cells.{striped_cells, left_cells, near_cells, far_cells}
 use Rattle.kinds.specs.Chunked.{chunked}
-use Rattle.kinds.specs.Limits.{Copied, Gridded}
 use Rattle.kinds.specs.declared.stock.Stock.{Stock}
 use Rattle.kinds.specs.declared.stock.Stock.TheVariants.{Striped, LeftSymmetric, Near, Far}
 
@@ -16,20 +13,6 @@ label_of (Striped s) = grid_label kind.Striped 1 s.cells.grid
 label_of (LeftSymmetric s) = grid_label kind.LeftSymmetric 1 s.cells.grid
 label_of (Near s) = grid_label kind.Near s.cells.copies s.cells.grid
 label_of (Far s) = grid_label kind.Far s.cells.copies s.cells.grid
-
--- what a kind asks of its label besides the limits of every grid
-abbrev pub Kinded : Label → Type 0
-Kinded l =
-    ((l.kind ≡ kind_number kind.Striped) × (l.copies ≡ 1))
-    ⊎ (((l.kind ≡ kind_number kind.LeftSymmetric) × (l.copies ≡ 1) × (3 ≤ l.members))
-    ⊎ (((l.kind ≡ kind_number kind.Near) × Copied l.members l.copies)
-    ⊎ ((l.kind ≡ kind_number kind.Far) × Copied l.members l.copies × (l.copies ≤ l.depth / l.chunk))))
-
--- a label within the limits
-pub record Stocked (l : Label) : Type 0 where
-  pub reserved : l.reserved ≡ 0
-  pub gridded : Gridded l.members l.chunk l.depth
-  pub kinded : Kinded l
 
 -- what a stock layout places where
 abbrev pub geometry_of : Stock → Geometry

@@ -1,8 +1,7 @@
 // Far copies: each member is cut into a zone for each copy, and each zone is striped, turned by one member more than the one before.
-ghost use Rattle.std.specs.Prelude.{◌≡◌, ◌-◌, ◌*◌, ◌/◌, ◌<◌, ◌≤◌, None, MatchOption};
+ghost use Rattle.std.specs.Prelude.{◌≡◌, ◌-◌, ◌*◌, ◌/◌, ◌<◌, ◌≤◌, None, MatchOption, true, false};
 ghost use Rattle.layout.specs.declared.kind.Kind.TheVariants as kind;
-ghost use Rattle.layout.specs.Labels.{stock_label};
-ghost use Rattle.kinds.specs.Limits.{Copied, Gridded};
+ghost use Rattle.layout.specs.Labels.{stock_in_limits, stock_label};
 ghost use Rattle.kinds.specs.Cells.{far_cells};
 ghost use Rattle.kinds.specs.Laws.{far_cellular, far_named};
 
@@ -11,6 +10,7 @@ use crate::grid::Grid;
 use crate::spread::Spread;
 use layout::Layout;
 use layout::kind::Kind;
+use layout::limits::bears_copies;
 use layout::place::{Owner, Place};
 
 #[derive(Clone, Copy, PartialEq, Eq, Debug)]
@@ -27,11 +27,11 @@ pub type Far = Spread<FarCells>;
 impl Far {
     // None where a number is out of limits; each zone has at least one chunk of each member.
     pub fn new(members: u64, copies: u64, chunk: u64, depth: u64) -> Option<Far>
-        ensures { MatchOption result (Gridded members chunk depth × Copied members copies × (copies ≤ depth / chunk) → ⊥) (λ l. ⟦<Far as Layout>⟧.named l ≡ stock_label kind.Far members copies chunk depth) }
+        ensures { MatchOption result (stock_in_limits (stock_label kind.Far members copies chunk depth) ≡ false) (λ l. (stock_in_limits (stock_label kind.Far members copies chunk depth) ≡ true) × (⟦<Far as Layout>⟧.named l ≡ stock_label kind.Far members copies chunk depth)) }
     {
         let grid = Grid::new(members, chunk, depth)?;
-        // A test: in a closure of `then`, which was tried, what the cells need of their numbers stayed open.
-        if grid.bears(copies) && copies <= grid.chunks {
+        // An `if`, so that its test is known where the cells are made.
+        if bears_copies(members, copies) && copies <= grid.chunks {
             Some(Spread {
                 cells: FarCells { grid, copies },
             })

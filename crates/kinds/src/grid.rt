@@ -1,24 +1,21 @@
 // The grid under every stock layout: a column of chunks for each member.
-ghost use Rattle.std.specs.Prelude.{◌≡◌, ◌*◌, ◌/◌, ◌%◌, ◌<◌, ◌≤◌, Decides, MatchOption};
+ghost use Rattle.std.specs.Prelude.{◌≡◌, ◌*◌, ◌/◌, ◌%◌, ◌<◌, ◌≤◌, Decides, MatchOption, true, false};
+ghost use Rattle.layout.specs.Labels.{whole_chunks};
 ghost use Rattle.kinds.specs.Chunked.{in_cell, in_chunk};
-ghost use Rattle.kinds.specs.Grids.{NumberAt, Used};
+ghost use Rattle.kinds.specs.Grids.{CellNumber, Used};
 ghost use Rattle.kinds.specs.Labels.{labelled};
-ghost use Rattle.kinds.specs.Limits.{Copied, Gridded, Measured};
+ghost use Rattle.kinds.specs.Limits.{Measured};
+ghost use Rattle.layout.specs.declared.TheConstants.{MOST_CHUNK, MOST_DEPTH};
 
 use layout::kind::Kind;
 use layout::label::Label;
+use layout::limits::has_whole_chunks;
 use layout::place::Place;
-use layout::{MOST_CHUNK, MOST_DEPTH, MOST_MEMBERS};
-
-pub const FEWEST_MEMBERS: u64 = 2;
-
-pub const FEWEST_COPIES: u64 = 2;
-
-pub const MOST_COPIES: u64 = 4;
+use layout::{MOST_CAPACITY, MOST_CHUNK, MOST_DEPTH};
 
 // The answer for a sector, a copy or a group out of range.
 // A place and no None, since every layout answers with a place for all numbers, and who asks in range has no case to tell apart.
-pub const NOWHERE: Place = (0, 0);
+pub(crate) const NOWHERE: Place = (0, 0);
 
 // The members are the columns, and the chunks of a member its rows; so the depth is chunk × chunks.
 #[derive(Clone, Copy, PartialEq, Eq, Debug)]
@@ -27,20 +24,17 @@ pub struct Grid {
     pub(crate) chunk: u64,
     pub(crate) chunks: u64,
     ghost wide: { (2 ≤ members) × (members ≤ 16) },
-    ghost thick: { (1 ≤ chunk) × (chunk ≤ 2048) },
-    ghost high: { (1 ≤ chunks) × (chunks ≤ 16777216) },
-    ghost deep: { chunk * chunks ≤ 16777216 },
+    ghost thick: { (1 ≤ chunk) × (chunk ≤ MOST_CHUNK) },
+    ghost high: { (1 ≤ chunks) × (chunks ≤ MOST_DEPTH) },
+    ghost deep: { chunk * chunks ≤ MOST_DEPTH },
 }
 
 impl Grid {
     // None where a number is out of limits; the depth is a positive multiple of the chunk.
     pub(crate) fn new(members: u64, chunk: u64, depth: u64) -> Option<Grid>
-        ensures { MatchOption result (Gridded members chunk depth → ⊥) (λ g. Measured g.members g.chunk g.chunks members chunk depth) }
+        ensures { MatchOption result (whole_chunks members chunk depth ≡ false) (λ g. (whole_chunks members chunk depth ≡ true) × Measured g.members g.chunk g.chunks members chunk depth) }
     {
-        let in_limits = (FEWEST_MEMBERS..=MOST_MEMBERS).contains(&members)
-            && (1..=MOST_CHUNK).contains(&chunk)
-            && (1..=MOST_DEPTH).contains(&depth);
-        if !in_limits || depth % chunk != 0 {
+        if !has_whole_chunks(members, chunk, depth) {
             return None;
         }
         Some(Grid {
@@ -48,13 +42,6 @@ impl Grid {
             chunk,
             chunks: depth / chunk,
         })
-    }
-
-    // Whether so many copies of a sector can lie on different members.
-    pub(crate) fn bears(&self, copies: u64) -> bool
-        ensures { Decides result (Copied self.now.members copies) }
-    {
-        (FEWEST_COPIES..=MOST_COPIES).contains(&copies) && copies <= self.members
     }
 
     // The label of a layout of a kind over the grid.
@@ -73,7 +60,7 @@ impl Grid {
     // The used sectors of a member.
     pub(crate) fn depth(&self) -> u64
         ensures value { result ≡ self.now.chunk * self.now.chunks }
-        ensures bound { (1 ≤ result) × (result ≤ 16777216) }
+        ensures bound { (1 ≤ result) × (result ≤ MOST_DEPTH) }
     {
         self.chunk * self.chunks
     }
@@ -81,7 +68,7 @@ impl Grid {
     // The chunks of all members.
     pub(crate) fn cells(&self) -> u64
         ensures value { result ≡ self.now.chunks * self.now.members }
-        ensures bound { (self.now.members ≤ result) × (result ≤ 268435456) }
+        ensures bound { (self.now.members ≤ result) × (result ≤ MOST_CAPACITY) }
     {
         self.chunks * self.members
     }
@@ -95,7 +82,7 @@ impl Grid {
 
     // The number of a cell, as the cells go round the members; None beyond the grid.
     pub(crate) fn number(&self, cell: Place) -> Option<u64>
-        ensures { NumberAt self.now.members self.now.chunks cell result }
+        ensures { CellNumber self.now.members self.now.chunks cell result }
     {
         self.holds(cell).then(|| cell.1 * self.members + cell.0)
     }
@@ -128,7 +115,7 @@ impl Grid {
     pub(crate) fn sector(&self, number: u64, offset: u64) -> u64
         requires { number < self.now.chunks * self.now.members }
         ensures value { result ≡ in_chunk self.now.chunk number (offset % self.now.chunk) }
-        ensures bound { result < 268435456 }
+        ensures bound { result < MOST_CAPACITY }
     {
         number * self.chunk + offset % self.chunk
     }

@@ -1,20 +1,17 @@
 // Left-symmetric parity: in each row of chunks one member has the parity, which moves one member to the left from row to row;
 // the data begin on the member after it.
-ghost use Rattle.std.specs.Prelude.{◌≡◌, ◌-◌, ◌*◌, ◌<◌, ◌≤◌, MatchOption};
+ghost use Rattle.std.specs.Prelude.{◌≡◌, ◌-◌, ◌*◌, ◌<◌, ◌≤◌, MatchOption, true, false};
 ghost use Rattle.layout.specs.declared.kind.Kind.TheVariants as kind;
-ghost use Rattle.layout.specs.Labels.{stock_label};
-ghost use Rattle.kinds.specs.Limits.{Gridded};
-ghost use Rattle.kinds.specs.Cells.{left_cells, parity_member_lem};
+ghost use Rattle.layout.specs.Labels.{stock_in_limits, stock_label};
+ghost use Rattle.kinds.specs.Cells.{left_cells, parity_on};
 ghost use Rattle.kinds.specs.Laws.{left_cellular, left_named};
 
 use crate::cells::Cells;
 use crate::grid::Grid;
 use crate::spread::Spread;
-use layout::Layout;
 use layout::kind::Kind;
 use layout::place::{Owner, Place};
-
-pub const FEWEST_WITH_PARITY: u64 = 3;
+use layout::{FEWEST_WITH_PARITY, Layout};
 
 #[derive(Clone, Copy, PartialEq, Eq, Debug)]
 pub struct LeftSymmetricCells {
@@ -27,7 +24,7 @@ pub type LeftSymmetric = Spread<LeftSymmetricCells>;
 impl LeftSymmetric {
     // None where a number is out of limits.
     pub fn new(members: u64, chunk: u64, depth: u64) -> Option<LeftSymmetric>
-        ensures { MatchOption result (Gridded members chunk depth × (3 ≤ members) → ⊥) (λ l. ⟦<LeftSymmetric as Layout>⟧.named l ≡ stock_label kind.LeftSymmetric members 1 chunk depth) }
+        ensures { MatchOption result (stock_in_limits (stock_label kind.LeftSymmetric members 1 chunk depth) ≡ false) (λ l. (stock_in_limits (stock_label kind.LeftSymmetric members 1 chunk depth) ≡ true) × (⟦<LeftSymmetric as Layout>⟧.named l ≡ stock_label kind.LeftSymmetric members 1 chunk depth)) }
     {
         let grid = Grid::new(members, chunk, depth)?;
         if members < FEWEST_WITH_PARITY {
@@ -42,7 +39,7 @@ impl LeftSymmetric {
 impl LeftSymmetricCells {
     // The member with the parity of a row of chunks.
     fn parity_member(&self, row: u64) -> u64
-        ensures value { result ≡ parity_member_lem self.now.grid.members row }
+        ensures value { result ≡ parity_on self.now.grid.members row }
         ensures bound { result < self.now.grid.members }
     {
         self.grid.members - 1 - row % self.grid.members

@@ -1,8 +1,7 @@
 // Near copies: the copies of a chunk lie in cells next to one another, as the cells go round the members.
-ghost use Rattle.std.specs.Prelude.{◌≡◌, ◌-◌, ◌<◌, ◌≤◌, None, MatchOption};
+ghost use Rattle.std.specs.Prelude.{◌≡◌, ◌-◌, ◌<◌, ◌≤◌, None, MatchOption, true, false};
 ghost use Rattle.layout.specs.declared.kind.Kind.TheVariants as kind;
-ghost use Rattle.layout.specs.Labels.{stock_label};
-ghost use Rattle.kinds.specs.Limits.{Copied, Gridded};
+ghost use Rattle.layout.specs.Labels.{stock_in_limits, stock_label};
 ghost use Rattle.kinds.specs.Cells.{near_cells};
 ghost use Rattle.kinds.specs.Laws.{near_cellular, near_named};
 
@@ -11,6 +10,7 @@ use crate::grid::Grid;
 use crate::spread::Spread;
 use layout::Layout;
 use layout::kind::Kind;
+use layout::limits::bears_copies;
 use layout::place::{Owner, Place};
 
 #[derive(Clone, Copy, PartialEq, Eq, Debug)]
@@ -26,11 +26,11 @@ pub type Near = Spread<NearCells>;
 impl Near {
     // None where a number is out of limits.
     pub fn new(members: u64, copies: u64, chunk: u64, depth: u64) -> Option<Near>
-        ensures { MatchOption result (Gridded members chunk depth × Copied members copies → ⊥) (λ l. ⟦<Near as Layout>⟧.named l ≡ stock_label kind.Near members copies chunk depth) }
+        ensures { MatchOption result (stock_in_limits (stock_label kind.Near members copies chunk depth) ≡ false) (λ l. (stock_in_limits (stock_label kind.Near members copies chunk depth) ≡ true) × (⟦<Near as Layout>⟧.named l ≡ stock_label kind.Near members copies chunk depth)) }
     {
         let grid = Grid::new(members, chunk, depth)?;
-        // A test: in a closure of `then`, which was tried, what the cells need of their numbers stayed open.
-        if grid.bears(copies) {
+        // An `if`, so that its test is known where the cells are made.
+        if bears_copies(members, copies) {
             Some(Spread {
                 cells: NearCells { grid, copies },
             })

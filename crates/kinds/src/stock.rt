@@ -1,7 +1,8 @@
 // Any of the four stock layouts, as a label names it.
-ghost use Rattle.std.specs.Prelude.{◌≡◌, MatchOption, MatchResult};
+ghost use Rattle.std.specs.Prelude.{◌≡◌, MatchOption, MatchResult, true, false};
 ghost use Rattle.answer.specs.declared.Refusal.TheVariants.{OutOfLimits};
-ghost use Rattle.kinds.specs.Stocks.{Stocked, geometry_of, label_of};
+ghost use Rattle.layout.specs.Labels.{stock_in_limits};
+ghost use Rattle.kinds.specs.Stocks.{geometry_of, label_of};
 ghost use Rattle.kinds.specs.Laws.{one_name};
 ghost use Rattle.kinds.specs.StockLaws.{stock_lawful, stock_named};
 
@@ -39,14 +40,14 @@ impl Stock {
     // The layout that a label names; every label that is out of limits is refused. By this name and not as `try_from`, which would not say
     // that the layout is the one that the label is of.
     pub fn from_label(label: &Label) -> Result<Stock, Refusal>
-        ensures { MatchResult result (λ s. label_of s ≡ label.now) (λ e. (e ≡ OutOfLimits) × (Stocked label.now → ⊥)) }
+        ensures { MatchResult result (λ s. (stock_in_limits label.now ≡ true) × (label_of s ≡ label.now)) (λ e. (stock_in_limits label.now ≡ false) × (e ≡ OutOfLimits)) }
     {
         Stock::named(label).ok_or(Refusal::OutOfLimits)
     }
 
-    #[tactic(auto, using(crate::proofs::Naming::no_kind))]
+    #[tactic(auto, using(layout::proofs::Numbered::kind_none))]
     fn named(label: &Label) -> Option<Stock>
-        ensures { MatchOption result (Stocked label.now → ⊥) (λ s. label_of s ≡ label.now) }
+        ensures { MatchOption result (stock_in_limits label.now ≡ false) (λ s. (stock_in_limits label.now ≡ true) × (label_of s ≡ label.now)) }
     {
         if label.reserved != 0 {
             return None;
@@ -55,15 +56,15 @@ impl Stock {
         let copies = u64::from(label.copies);
         let chunk = u64::from(label.chunk);
         let depth = label.depth;
-        match Kind::try_from(label.kind).ok()? {
-            Kind::Striped if copies == 1 => {
+        match Kind::try_from(label.kind) {
+            Ok(Kind::Striped) if copies == 1 => {
                 Striped::new(members, chunk, depth).map(Stock::Striped)
             }
-            Kind::LeftSymmetric if copies == 1 => {
+            Ok(Kind::LeftSymmetric) if copies == 1 => {
                 LeftSymmetric::new(members, chunk, depth).map(Stock::LeftSymmetric)
             }
-            Kind::Near => Near::new(members, copies, chunk, depth).map(Stock::Near),
-            Kind::Far => Far::new(members, copies, chunk, depth).map(Stock::Far),
+            Ok(Kind::Near) => Near::new(members, copies, chunk, depth).map(Stock::Near),
+            Ok(Kind::Far) => Far::new(members, copies, chunk, depth).map(Stock::Far),
             _ => None,
         }
     }

@@ -1,8 +1,7 @@
 // Striped: the chunks go round the members, with one copy of each.
-ghost use Rattle.std.specs.Prelude.{◌≡◌, ◌<◌, None, MatchOption};
+ghost use Rattle.std.specs.Prelude.{◌≡◌, ◌<◌, None, MatchOption, true, false};
 ghost use Rattle.layout.specs.declared.kind.Kind.TheVariants as kind;
-ghost use Rattle.layout.specs.Labels.{stock_label};
-ghost use Rattle.kinds.specs.Limits.{Gridded};
+ghost use Rattle.layout.specs.Labels.{stock_in_limits, stock_label};
 ghost use Rattle.kinds.specs.Cells.{striped_cells};
 ghost use Rattle.kinds.specs.Laws.{striped_cellular, striped_named};
 
@@ -23,7 +22,7 @@ pub type Striped = Spread<StripedCells>;
 impl Striped {
     // None where a number is out of limits.
     pub fn new(members: u64, chunk: u64, depth: u64) -> Option<Striped>
-        ensures { MatchOption result (Gridded members chunk depth → ⊥) (λ l. ⟦<Striped as Layout>⟧.named l ≡ stock_label kind.Striped members 1 chunk depth) }
+        ensures { MatchOption result (stock_in_limits (stock_label kind.Striped members 1 chunk depth) ≡ false) (λ l. (stock_in_limits (stock_label kind.Striped members 1 chunk depth) ≡ true) × (⟦<Striped as Layout>⟧.named l ≡ stock_label kind.Striped members 1 chunk depth)) }
     {
         let grid = Grid::new(members, chunk, depth)?;
         Some(Spread {

@@ -1,10 +1,11 @@
 -- The bytes of a label and its parts.
 use Rattle.std.proofs.Common.{◌≡◌, ℕ, List, ◌∷◌, ◌++◌, length, get_or, take, drop, arith}
 use Rattle.std.proofs.lemmas.List.{drop_more, drop-drop, take_all, take-append-drop, length-drop}
-use Rattle.layout.specs.Bytes.{le, from_le, label_bytes, label_of}
+use Rattle.sector.specs.Bytes.{le, from_le}
+use Rattle.layout.specs.Bytes.{label_bytes, label_from}
 use Rattle.layout.specs.declared.label.Label.{Label}
 
-pub of_label : (l : Label) → from_le (le 4 l.chunk) ≡ l.chunk → from_le (le 8 l.depth) ≡ l.depth → label_of (label_bytes l) ≡ l
+pub of_label : (l : Label) → from_le (le 4 l.chunk) ≡ l.chunk → from_le (le 8 l.depth) ≡ l.depth → label_from (label_bytes l) ≡ l
 unfolding le
 of_label l chunk depth = λ i. record l { chunk = chunk i; depth = depth i }
 

@@ -1,4 +1,3 @@
-pub mod Bytes
 pub mod Groups
 pub mod Numbered
 pub mod Labels

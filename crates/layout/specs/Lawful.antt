@@ -1,8 +1,10 @@
 -- The laws that every layout keeps.
 use Rattle.std.specs.Prelude.{◌≡◌, ℕ, ◌+◌, ◌*◌, ◌/◌, ◌<◌, ◌≤◌, ◌≢◌}
+use Rattle.sector.specs.declared.limits.TheConstants.{FEWEST_MEMBERS, MOST_MEMBERS}
 use Rattle.layout.specs.declared.place.Owner.{Owner}
 use Rattle.layout.specs.declared.place.Owner.TheVariants.{Datum, Parity, Nobody}
 use Rattle.layout.specs.Geometry.{Geometry, capacity, Is, place_of}
+use Rattle.layout.specs.declared.TheConstants.{MOST_CAPACITY, MOST_DEPTH}
 
 -- the place is on a member and below the depth
 pub record Inside (g : Geometry) (p : ℕ × ℕ) : Type 0 where
@@ -30,14 +32,14 @@ pub record Peer (g : Geometry) (x a : ℕ) : Type 0 where
 
 -- the numbers within which every layout stays
 pub record Limits (g : Geometry) : Type 0 where
-  pub members_least : 2 ≤ g.members
-  pub members_most : g.members ≤ 16
-  pub depth_most : g.depth ≤ 16777216
+  pub members_least : FEWEST_MEMBERS ≤ g.members
+  pub members_most : g.members ≤ MOST_MEMBERS
+  pub depth_most : g.depth ≤ MOST_DEPTH
   pub copies_some : 1 ≤ g.copies
   pub copies_most : g.copies ≤ g.members
   pub row_some : 1 ≤ g.row_len
   pub rows_some : 1 ≤ g.rows
-  pub capacity_most : g.rows * g.row_len ≤ 268435456
+  pub capacity_most : g.rows * g.row_len ≤ MOST_CAPACITY
 
 -- how many members may be absent: one less than the copies, and one with parity
 pub record Loss (g : Geometry) : Type 0 where

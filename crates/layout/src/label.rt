@@ -1,11 +1,12 @@
 // The label: 16 bytes by which a head names a layout.
 ghost use Rattle.std.specs.Prelude.{◌≡◌};
-ghost use Rattle.layout.specs.Bytes.{label_bytes, label_of};
-ghost use Rattle.layout.specs.Labels.{in_limits, stock_kind, stock_label};
+ghost use Rattle.layout.specs.Bytes.{label_bytes, label_from};
+ghost use Rattle.layout.specs.Labels.{label_in_limits, stock_in_limits, stock_label};
 
-use crate::MOST_CHUNK;
-use crate::field::Field;
+use crate::FEWEST_WITH_PARITY;
 use crate::kind::Kind;
+use crate::limits::{bears_copies, has_whole_chunks};
+use sector::field::Field;
 
 // bytes in a label
 pub const LABEL: usize = 16;
@@ -50,18 +51,31 @@ impl Label {
         }
     }
 
-    // Whether a layout can have this label by its kind, its chunk and its reserved byte.
+    // Whether a layout can have this label: it is within the limits of its stock kind, or a customer's own with the reserved byte 0.
     pub fn is_in_limits(&self) -> bool
-        ensures { result ≡ in_limits self.now }
+        ensures { result ≡ label_in_limits self.now }
     {
-        self.reserved == 0 && (self.kind >= FIRST_CUSTOM_KIND || self.is_stock())
+        (self.reserved == 0 && self.kind >= FIRST_CUSTOM_KIND) || self.is_stock()
     }
 
-    #[tactic(auto, using(crate::proofs::Numbered::kind_known))]
-    fn is_stock(&self) -> bool
-        ensures { result ≡ stock_kind self.now }
+    // Whether it is the label of a stock layout: one of the stock kinds, and every field within that kind's limits.
+    #[tactic(auto, using(crate::proofs::Numbered::kind_none))]
+    pub fn is_stock(&self) -> bool
+        ensures { result ≡ stock_in_limits self.now }
     {
-        Kind::try_from(self.kind).is_ok() && (1..=MOST_CHUNK).contains(&u64::from(self.chunk))
+        let members = u64::from(self.members);
+        let copies = u64::from(self.copies);
+        let chunk = u64::from(self.chunk);
+        if self.reserved != 0 || !has_whole_chunks(members, chunk, self.depth) {
+            return false;
+        }
+        match Kind::try_from(self.kind) {
+            Ok(Kind::Striped) => copies == 1,
+            Ok(Kind::LeftSymmetric) => copies == 1 && members >= FEWEST_WITH_PARITY,
+            Ok(Kind::Near) => bears_copies(members, copies),
+            Ok(Kind::Far) => bears_copies(members, copies) && copies <= self.depth / chunk,
+            Err(_) => false,
+        }
     }
 }
 
@@ -69,7 +83,7 @@ impl Label {
 impl Field<LABEL> for Label {
     ghost bytes_of = { label_bytes };
 
-    ghost of_bytes = { label_of };
+    ghost of_bytes = { label_from };
 
     fn to_bytes(&self) -> [u8; LABEL] {
         let mut bytes = [0; LABEL];

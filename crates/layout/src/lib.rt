@@ -7,15 +7,13 @@ ghost use Rattle.layout.specs.Labels.{true_label};
 ghost use Rattle.layout.specs.Lawful.{Lawful};
 ghost use Rattle.layout.specs.declared.label.Label.{Label};
 
-pub mod field;
 pub mod kind;
 pub mod label;
+pub mod limits;
 pub mod place;
 
 use label::Label;
 use place::{Owner, Place};
-
-pub const MOST_MEMBERS: u64 = 16;
 
 pub const MOST_DEPTH: u64 = 16_777_216;
 
@@ -23,6 +21,13 @@ pub const MOST_CAPACITY: u64 = 268_435_456;
 
 // the longest chunk of a stock kind, in sectors
 pub const MOST_CHUNK: u64 = 2_048;
+
+// the members of a stock kind with parity, and the copies of a stock kind with more than one
+pub const FEWEST_WITH_PARITY: u64 = 3;
+
+pub const FEWEST_COPIES: u64 = 2;
+
+pub const MOST_COPIES: u64 = 4;
 
 // A layout: every sector below the capacity has a place for each of its copies; with parity, every sector is in one group, and the
 // group has a place for the exclusive-or of its peers. A customer's own layout implements this trait and has a label of kind 128 to 255.
@@ -106,7 +111,8 @@ pub fn led_group<L: Layout>(layout: &L, sector: u64) -> Option<u64>
         .filter(|&group| layout.peer(group, 0) == sector)
 }
 
-// Whether the layout's label says what the layout is: a known kind, a zero reserved byte, and its own members, copies and depth.
+// Whether the layout's label is within the limits of its kind and has the layout's own members, copies and depth.
+#[tactic(auto, unfolding(crate::specs::Labels::true_label))]
 pub fn has_true_label<L: Layout>(layout: &L) -> bool
     ensures { result ≡ true_label (L.Layout.named layout.now) (L.Layout.geometry layout.now) }
 {

@@ -7,7 +7,7 @@ use Rattle.std.proofs.lemmas.Bool.{cond-true, cond-false, lt-ltb, eq-eqb, ne_eqb
 use Rattle.layout.specs.declared.place.Owner.TheVariants.{Parity}
 use Rattle.layout.specs.Geometry.{Geometry, capacity, Only, LedAt}
 use Rattle.layout.specs.Lawful.{Owns, Lawful}
-use Rattle.overlap.specs.Needs.{row_need_lem, owner_need, place_need_lem, led_need}
+use Rattle.overlap.specs.Needs.{need_by_row, need_by_owner, need_by_place, need_by_led}
 use Rattle.overlap.specs.Rows.{LiveRows}
 
 pub live_rows_lem : (g : Geometry) → Lawful g → (size len k : ℕ) → len ≡ g.row_len → k ≡ div_ceil size len → LiveRows g size k × (k ≤ size)
@@ -34,9 +34,9 @@ parity_first g law p x r e only =
     only.0 (own.0, law.grouping.some x own.0)
 
 pub parity_place_lem : (g : Geometry) → Lawful g → (size : ℕ) (p : ℕ × ℕ) (x r n : ℕ) → Parity x ≡ g.owner p
-    → Only r ((x < g.groups) × (0 < g.peers x)) (g.peer x 0) 0 → n ≡ row_need_lem g size (r / g.row_len) → n ≡ place_need_lem g size p
+    → Only r ((x < g.groups) × (0 < g.peers x)) (g.peer x 0) 0 → n ≡ need_by_row g size (r / g.row_len) → n ≡ need_by_place g size p
 parity_place_lem g law size p x r n e only m =
-    m ∙ (ap (λ y. row_need_lem g size (y / g.row_len)) (parity_first g law p x r e only) ∙ ap (owner_need g size) e)
+    m ∙ (ap (λ y. need_by_row g size (y / g.row_len)) (parity_first g law p x r e only) ∙ ap (need_by_owner g size) e)
 
 -- the sector of a target row
 pub sector_below : (t : Geometry) (r k : ℕ) → r < t.rows → k < t.row_len → r * t.row_len + k < capacity t
@@ -44,7 +44,7 @@ sector_below t r k a b = omega (arith, mul-add-lt r t.row_len k t.rows a b, mul_
 
 -- what the parity needs: P tells of what was asked for a group
 pub led_is : (s : Geometry) {t : Geometry} → Lawful t → (size i n : ℕ) → i < capacity t → (o : Option ℕ) (P : ℕ → Type 0) → LedAt t i o → MatchOption o (n ≡ 0) P
-    → ((x : ℕ) → x < t.groups → P x → n ≡ place_need_lem s size (t.parity x)) → n ≡ led_need s t size i
+    → ((x : ℕ) → x < t.groups → P x → n ≡ need_by_place s size (t.parity x)) → n ≡ need_by_led s t size i
 led_is s {t} law size i n inside None P led e asked =
     e ∙ sym (elim (cases_lt 0 t.groups) [
       | inl lt ↦ cond-true (ltb 0 t.groups) _ 0 (lt-ltb 0 t.groups lt) ∙ cond-false (eqb (t.peer (t.group i) 0) i) _ 0 (ne_eqb (t.peer (t.group i) 0) i (led (lt, inside)))
@@ -54,5 +54,5 @@ led_is s {t} law size i n inside (Some x) P led e asked =
     let below : x < t.groups = rw led.2 (law.grouping.joined i led.0 led.1).group in
     let first : t.peer (t.group i) 0 ≡ i = ap (λ z. t.peer z 0) (sym led.2) ∙ led.3 in
     asked x below e
-    ∙ (ap (λ z. place_need_lem s size (t.parity z)) led.2
+    ∙ (ap (λ z. need_by_place s size (t.parity z)) led.2
     ∙ sym (cond-true (ltb 0 t.groups) _ 0 (lt-ltb 0 t.groups led.0) ∙ cond-true (eqb (t.peer (t.group i) 0) i) _ 0 (eq-eqb (t.peer (t.group i) 0) i first)))

@@ -1,4 +1,5 @@
 pub mod Answering
+pub mod Homes
 pub mod Most
 pub mod Sharing
 pub mod Windows

@@ -4,19 +4,21 @@ use Rattle.std.proofs.lemmas.Bool.{cases_lt, cond-false, le-ltb}
 use Rattle.std.proofs.lemmas.Nat.{mul-le}
 use Rattle.layout.specs.Geometry.{Geometry}
 use Rattle.layout.specs.Lawful.{Lawful}
-use Rattle.overlap.specs.Needs.{most, need_of, reach_of, ahead_of, distance_of}
+use Rattle.overlap.specs.Homes.{window_of}
+use Rattle.overlap.specs.Needs.{most, need_of, reach_of, distance_of}
 use Rattle.overlap.proofs.Most.{most_above, most_beyond}
+use Rattle.layout.specs.declared.TheConstants.{MOST_CAPACITY}
 
 -- rows past the target's have no need
 pub need_beyond : (s t : Geometry) (size r : ℕ) → t.rows ≤ r → need_of s t size r ≡ 0
 need_beyond s t size r h = cond-false (ltb r t.rows) _ 0 (le-ltb r t.rows h)
 
-pub enough : (s t : Geometry) (size p q : ℕ) → q < need_of s t size p → ahead_of s t size (q + 1) p ≤ distance_of s t size
+pub enough : (s t : Geometry) (size p q : ℕ) → q < need_of s t size p → window_of s.row_len t.row_len p size (q + 1) ≤ distance_of s t size
 enough s t size p q h =
     elim (cases_lt p t.rows) [
       | inr le ↦ absurd (omega (arith, h, need_beyond s t size p le))
       | inl lt ↦
-          (let ahead : ℕ → ℕ = λ r. ahead_of s t size (reach_of s t size r) r in
+          (let ahead : ℕ → ℕ = λ r. window_of s.row_len t.row_len r size (reach_of s t size r) in
           let reach : q + 1 ≤ reach_of s t size p = omega (arith, most_above (need_of s t size) (p + 1) p (omega arith)) in
           omega (arith, most_above ahead t.rows p lt, mul-le-mul_right s.row_len reach))
     ]
@@ -32,5 +34,5 @@ reach_cut s t size r n e =
     ]
 
 -- a layout has fewer rows than a number of 64 bits can count
-pub rows_few : (t : Geometry) → Lawful t → t.rows ≤ 268435456
+pub rows_few : (t : Geometry) → Lawful t → t.rows ≤ MOST_CAPACITY
 rows_few t law = omega (arith, law.limits.capacity_most, mul-le t.rows 1 t.rows t.row_len (omega arith) law.limits.row_some)

@@ -1,19 +1,12 @@
 -- Where a sector lives while its volume moves.
-use Rattle.std.specs.Prelude.{◌≡◌, ℕ, ◌+◌, ◌-◌, ◌*◌, ◌/◌, ◌<◌, ◌≤◌, min, Bool, cond, nat_lt}
+use Rattle.std.specs.Prelude.{◌≡◌, ℕ, ◌+◌, ◌-◌, ◌*◌, ◌<◌, ◌≤◌, min, cond, nat_lt}
 use Rattle.overlap.specs.declared.walk.Home.{Home}
 use Rattle.overlap.specs.declared.walk.Home.TheVariants.{Source, Target, Backup}
 
 -- On numbers, not on a walk: the layers above say it of a volume before there is one.
--- p target rows are settled and q source rows are kept, from the first one up
-abbrev pub settled_row : ℕ → ℕ → Bool
-settled_row p r = nat_lt r p
-
-abbrev pub kept_row : ℕ → ℕ → Bool
-kept_row q s = nat_lt s q
-
--- the home of sector i, where a source row has a sectors and a target row c
+-- The home of sector i, where p target rows of c sectors are settled and q source rows of a sectors are kept, from the first one up.
 abbrev pub home_of : (a c p q : ℕ) → ℕ → Home
-home_of a c p q i = cond (settled_row p (i / c)) Target (cond (kept_row q (i / a)) Backup Source)
+home_of a c p q i = cond (nat_lt i (p * c)) Target (cond (nat_lt i (q * a)) Backup Source)
 
 -- how many sectors stand in backup slots once q source rows are kept
 abbrev pub window_of : (a c p size q : ℕ) → ℕ

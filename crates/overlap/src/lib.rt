@@ -3,8 +3,9 @@
 
 ghost use Rattle.std.specs.Prelude.{◌≡◌, ℕ, ◌+◌, ◌-◌, ◌*◌, ◌/◌, ◌<◌, ◌≤◌};
 ghost use Rattle.layout.specs.Geometry.{capacity as room};
-ghost use Rattle.overlap.specs.Needs.{ahead_of, distance_of, led_need, most, need_of, place_need_lem, reach_of, row_need_lem, sector_need_lem};
-ghost use Rattle.overlap.specs.Rows.{Highest, LiveRows};
+ghost use Rattle.overlap.specs.Homes.{window_of};
+ghost use Rattle.overlap.specs.Needs.{distance_of, need_by_led, most, need_of, need_by_place, reach_of, need_by_row, need_by_sector};
+ghost use Rattle.overlap.specs.Rows.{Highest, LiveRows, NeedIsHighest, NeedIsLive, OneHighest};
 
 pub mod walk;
 
@@ -41,6 +42,15 @@ pub fn need<Old: Layout, New: Layout>(source: &Old, target: &New, size: u64, row
     })
 }
 
+// What the need is, for every two lawful layouts: the one number that is one more than the highest live source row that shares a place
+// with the target row, or 0 where none does.
+#[tactic(auto, using(crate::proofs::Sharing::highest, crate::proofs::Sharing::one_highest, crate::proofs::Sharing::live_need))]
+pub fn need_is_highest()
+    ensures highest { NeedIsHighest }
+    ensures one { OneHighest }
+    ensures live { NeedIsLive }
+{}
+
 // The reach of a target row: the greatest need of the rows up to it. It never falls from row to row.
 pub fn reach<Old: Layout, New: Layout>(source: &Old, target: &New, size: u64, row: u64) -> u64
     ensures value { result ≡ reach_of (Old.Layout.geometry source.now) (New.Layout.geometry target.now) size row }
@@ -55,7 +65,7 @@ pub fn reach<Old: Layout, New: Layout>(source: &Old, target: &New, size: u64, ro
 // So many slots are enough for the next source row whenever the next target row still needs it.
 pub fn distance<Old: Layout, New: Layout>(source: &Old, target: &New, size: u64) -> u64
     ensures value { result ≡ distance_of (Old.Layout.geometry source.now) (New.Layout.geometry target.now) size }
-    ensures enough { (p q : ℕ) → q < need_of (Old.Layout.geometry source.now) (New.Layout.geometry target.now) size p → ahead_of (Old.Layout.geometry source.now) (New.Layout.geometry target.now) size (q + 1) p ≤ result }
+    ensures enough { (p q : ℕ) → q < need_of (Old.Layout.geometry source.now) (New.Layout.geometry target.now) size p → window_of (Old.Layout.geometry source.now).row_len (New.Layout.geometry target.now).row_len p size (q + 1) ≤ result }
 {
     let mut reach: u64 = 0;
     let mut most: u64 = 0;
@@ -70,7 +80,7 @@ pub fn distance<Old: Layout, New: Layout>(source: &Old, target: &New, size: u64)
 
 // What one target sector needs: its copies, and the parity of its group where it leads one.
 fn sector_need<Old: Layout, New: Layout>(source: &Old, target: &New, size: u64, sector: u64) -> u64
-    ensures { sector < room (New.Layout.geometry target.now) → result ≡ sector_need_lem (Old.Layout.geometry source.now) (New.Layout.geometry target.now) size sector }
+    ensures { sector < room (New.Layout.geometry target.now) → result ≡ need_by_sector (Old.Layout.geometry source.now) (New.Layout.geometry target.now) size sector }
 {
     greatest(0..target.copies(), |copy| {
         place_need(source, size, target.place(sector, copy))
@@ -80,7 +90,7 @@ fn sector_need<Old: Layout, New: Layout>(source: &Old, target: &New, size: u64, 
 
 // What the parity of the group needs that a target sector leads, or 0.
 fn parity_need<Old: Layout, New: Layout>(source: &Old, target: &New, size: u64, sector: u64) -> u64
-    ensures { sector < room (New.Layout.geometry target.now) → result ≡ led_need (Old.Layout.geometry source.now) (New.Layout.geometry target.now) size sector }
+    ensures { sector < room (New.Layout.geometry target.now) → result ≡ need_by_led (Old.Layout.geometry source.now) (New.Layout.geometry target.now) size sector }
 {
     led_group(target, sector).map_or(0, |group| {
         place_need(source, size, target.parity(group))
@@ -101,7 +111,7 @@ fn greatest<F: Fn(u64) -> u64>(range: Range<u64>, ask: F) -> u64
 
 // One more than the live source row that has this place, or 0.
 fn place_need<Old: Layout>(source: &Old, size: u64, place: Place) -> u64
-    ensures { result ≡ place_need_lem (Old.Layout.geometry source.now) size place }
+    ensures { result ≡ need_by_place (Old.Layout.geometry source.now) size place }
 {
     match source.owner(place) {
         Owner::Datum { sector, .. } => row_need(source, size, sector),
@@ -113,7 +123,7 @@ fn place_need<Old: Layout>(source: &Old, size: u64, place: Place) -> u64
 // One more than the row of a source sector, if it is live, else 0.
 fn row_need<Old: Layout>(source: &Old, size: u64, sector: u64) -> u64
     requires { sector < room (Old.Layout.geometry source.now) }
-    ensures { result ≡ row_need_lem (Old.Layout.geometry source.now) size (sector / (Old.Layout.geometry source.now).row_len) }
+    ensures { result ≡ need_by_row (Old.Layout.geometry source.now) size (sector / (Old.Layout.geometry source.now).row_len) }
 {
     let len = source.row_len();
     let row = sector / len;

@@ -1,6 +1,6 @@
 // How far a move has come, in plain numbers: which rows are settled, which are kept, and where a sector therefore lives.
-ghost use Rattle.std.specs.Prelude.{◌≡◌, ◌+◌, ◌-◌, ◌*◌, ◌^◌, ◌<◌, ◌≤◌, min, Decides};
-ghost use Rattle.overlap.specs.Homes.{KeepSpan, home_of, kept_row, settled_row, window_of};
+ghost use Rattle.std.specs.Prelude.{◌≡◌, ◌+◌, ◌-◌, ◌*◌, ◌^◌, ◌<◌, ◌≤◌, min, nat_lt, Decides};
+ghost use Rattle.overlap.specs.Homes.{KeepSpan, home_of, window_of};
 
 use layout::Layout;
 use std::ops::Range;
@@ -56,31 +56,33 @@ impl Walk {
         }
     }
 
-    // Whether a target row is settled.
-    pub fn is_settled(&self, row: u64) -> bool
-        ensures { result ≡ settled_row self.now.settled row }
-    {
-        row < self.settled
-    }
-
-    // Whether a source row is kept.
-    pub fn is_kept(&self, row: u64) -> bool
-        ensures { result ≡ kept_row self.now.kept row }
-    {
-        row < self.kept
-    }
-
     // Where a sector lives.
     pub fn home(&self, sector: u64) -> Home
         ensures { result ≡ home_of self.now.source_len self.now.target_len self.now.settled self.now.kept sector }
     {
-        if self.is_settled(sector / self.target_len) {
+        if self.is_settled(sector) {
             Home::Target
-        } else if self.is_kept(sector / self.source_len) {
+        } else if self.is_kept(sector) {
             Home::Backup
         } else {
             Home::Source
         }
+    }
+
+    // Whether a sector lies in the settled target rows; by its row, since their end may be no number of 64 bits.
+    #[tactic(auto, using(crate::proofs::Homes::row_below))]
+    fn is_settled(&self, sector: u64) -> bool
+        ensures { result ≡ nat_lt sector (self.now.settled * self.now.target_len) }
+    {
+        sector / self.target_len < self.settled
+    }
+
+    // Whether a sector lies in the kept source rows.
+    #[tactic(auto, using(crate::proofs::Homes::row_below))]
+    fn is_kept(&self, sector: u64) -> bool
+        ensures { result ≡ nat_lt sector (self.now.kept * self.now.source_len) }
+    {
+        sector / self.source_len < self.kept
     }
 
     // Whether every live source row is kept.

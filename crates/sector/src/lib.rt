@@ -1,8 +1,11 @@
 // The sector: the 512 bytes that a shelf reads and writes at once.
 #![tactic(auto)]
 
-ghost use Rattle.std.specs.Prelude.{◌≡◌, length, replicate, MatchOption, ◌≢◌, bit_xor};
+ghost use Rattle.std.specs.Prelude.{◌≡◌, replicate, bit_xor};
 ghost use Rattle.sector.specs.Folds.{folded};
+
+pub mod field;
+pub mod limits;
 
 // bytes in a sector
 pub const SECTOR: usize = 512;
@@ -34,11 +37,4 @@ fn fold_byte(written: u8, read: u8) -> u8
     ensures { result ≡ bit_xor written read }
 {
     written ^ read
-}
-
-// The sector that a buffer holds, if it has a sector's length.
-pub fn copied(buffer: &[u8]) -> Option<Sector>
-    ensures { MatchOption result (length buffer.now ≢ 512) (λ s. s ≡ buffer.now) }
-{
-    buffer.try_into().ok()
 }

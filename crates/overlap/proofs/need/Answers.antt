@@ -1,7 +1,7 @@
 use Rattle.std.proofs.Common.{◌≡◌, ℕ, ◌+◌, ◌-◌, ◌*◌, ◌<◌, ltb, sym, ap, ◌∙◌, arith, rules}
 use Rattle.std.proofs.lemmas.Bool.{cond-true, lt-ltb}
 use Rattle.layout.specs.Geometry.{capacity as room}
-use Rattle.overlap.specs.Needs.{most, sector_need_lem}
+use Rattle.overlap.specs.Needs.{most, need_by_sector}
 use Rattle.overlap.proofs.Answering.{sector_below}
 use Rattle.overlap.proofs.Sharing.{highest_at, need_live}
 use Rattle.overlap.proofs.Windows.{need_beyond}
@@ -15,7 +15,7 @@ pub returns-clause-value : goal.returns-clause-value
 returns-clause-value g c =
     let s = g.Old.Layout.geometry c.args.source.now in
     let t = g.New.Layout.geometry c.args.target.now in
-    let row : ℕ → ℕ → ℕ = λ l k. sector_need_lem s t c.args.size (c.args.row * l + k) in
+    let row : ℕ → ℕ → ℕ = λ l k. need_by_sector s t c.args.size (c.args.row * l + k) in
     let len = c.row_len-len.result in
     let width : c.args.row * len + len - c.args.row * len ≡ len = omega arith in
     let all : c.greatest.result ≡ most (row len) len =

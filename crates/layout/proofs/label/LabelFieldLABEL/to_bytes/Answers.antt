@@ -1,5 +1,6 @@
 use Rattle.std.proofs.Common.{refl, sym, ap, ◌∙◌}
-use Rattle.layout.specs.Bytes.{le, from_le, label_bytes, label_of}
+use Rattle.sector.specs.Bytes.{le, from_le}
+use Rattle.layout.specs.Bytes.{label_bytes, label_from}
 use Rattle.layout.proofs.Labels.{of_label}
 use Rattle.layout.proofs.label.LabelFieldLABEL.to_bytes.Goals as goal
 
@@ -12,6 +13,6 @@ returns-clause-bytes c =
 
 pub returns-clause-back : goal.returns-clause-back
 returns-clause-back c =
-    ap label_of (returns-clause-bytes c)
+    ap label_from (returns-clause-bytes c)
     ∙ of_label c.args.self.now (ap from_le (sym c.to_bytes.ensures.bytes) ∙ c.to_bytes.ensures.back)
     (ap from_le (sym c.to_bytes-2.ensures.bytes) ∙ c.to_bytes-2.ensures.back)

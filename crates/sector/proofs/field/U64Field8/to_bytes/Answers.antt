@@ -1,7 +1,7 @@
 use Rattle.std.proofs.Common.{ap, ◌∙◌, arith}
-use Rattle.layout.specs.Bytes.{from_le}
-use Rattle.layout.proofs.Bytes.{le_eight, of_le}
-use Rattle.layout.proofs.field.U64Field8.to_bytes.Goals as goal
+use Rattle.sector.specs.Bytes.{from_le}
+use Rattle.sector.proofs.Bytes.{le_eight, of_le}
+use Rattle.sector.proofs.field.U64Field8.to_bytes.Goals as goal
 
 pub returns-clause-bytes : goal.returns-clause-bytes
 returns-clause-bytes c = c.to_le_bytes.ensures ∙ le_eight c.args.self.now

@@ -3,7 +3,7 @@ use Rattle.std.proofs.Common.{◌≡◌, ℕ, zero, suc, ◌*◌, ◌/◌, ◌^�
 use native.Mathlib.Nat.{div-div-eq-div-mul, mod-add-div}
 use Rattle.std.specs.Int.{w32, w64, to_le_bytes}
 use Rattle.std.proofs.lemmas.Nat.{div_below}
-use Rattle.layout.specs.Bytes.{le, from_le}
+use Rattle.sector.specs.Bytes.{le, from_le}
 
 pub of_le : (w n : ℕ) → n < 256 ^ w → from_le (le w n) ≡ n
 unfolding le from_le

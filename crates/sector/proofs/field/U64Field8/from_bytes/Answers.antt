@@ -1,8 +1,8 @@
 use Rattle.std.proofs.Common.{rules, sym, ap, ◌∙◌, arith}
 use Rattle.std.proofs.lemmas.Nat.{le_bytes_8}
-use Rattle.layout.specs.Bytes.{from_le}
-use Rattle.layout.proofs.Bytes.{le_eight, of_le}
-use Rattle.layout.proofs.field.U64Field8.from_bytes.Goals as goal
+use Rattle.sector.specs.Bytes.{from_le}
+use Rattle.sector.proofs.Bytes.{le_eight, of_le}
+use Rattle.sector.proofs.field.U64Field8.from_bytes.Goals as goal
 
 pub returns-clause-back : goal.returns-clause-back
 returns-clause-back c =

@@ -1,6 +1,6 @@
 // Fields of fixed width: values and their bytes, of which each gives the other.
 ghost use Rattle.std.specs.Prelude.{◌≡◌, ℕ, List};
-ghost use Rattle.layout.specs.Bytes.{le, from_le};
+ghost use Rattle.sector.specs.Bytes.{le, from_le};
 
 // A value that is kept in so many bytes. Reading undoes writing, and writing undoes reading. Each method says so of the
 // values there are: a law beside them would be of every number, and a `u32` has not all of them.
