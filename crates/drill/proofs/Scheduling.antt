@@ -11,7 +11,7 @@ use Rattle.drill.specs.declared.schedule.Kind.{Kind}
 use Rattle.drill.specs.declared.schedule.Kind.TheVariants.{CutBefore, CutAfter, Lose}
 use Rattle.drill.specs.declared.schedule.Power.{Power}
 use Rattle.drill.specs.declared.schedule.Power.TheVariants.{Stays}
-use Rattle.drill.specs.Schedules.{cut_by, cut_of, decides, power_at_lem}
+use Rattle.drill.specs.Schedules.{cut_by, cut_of, decides, power_due}
 
 -- one incident, before the rest of the schedule
 by_kind : (k : Kind) (later : Power) → decides k later ≡ unwrap_or (cut_of k) later
@@ -26,16 +26,16 @@ by_cut x n later = elim (cases_Bool (eqb x.at n)) [
 ]
 
 -- no cut is due
-pub none_due : (xs : List Incident) (n : ℕ) → ((k : ℕ) (d : Incident) → k < length xs → cut_by (get_or xs k d) n ≡ None) → power_at_lem xs n ≡ Stays
+pub none_due : (xs : List Incident) (n : ℕ) → ((k : ℕ) (d : Incident) → k < length xs → cut_by (get_or xs k d) n ≡ None) → power_due xs n ≡ Stays
 none_due [] n h = refl
-none_due (x ∷ xs) n h = by_cut x n _ ∙ (ap (λ o. unwrap_or o (power_at_lem xs n)) (h 0 x (omega arith)) ∙ none_due xs n (λ k d lt. h (suc k) d (omega arith)))
+none_due (x ∷ xs) n h = by_cut x n _ ∙ (ap (λ o. unwrap_or o (power_due xs n)) (h 0 x (omega arith)) ∙ none_due xs n (λ k d lt. h (suc k) d (omega arith)))
 
 -- the first one is that at place i
 pub first_due : (xs : List Incident) (n i : ℕ) (p : Power) → i < length xs → ((d : Incident) → cut_by (get_or xs i d) n ≡ Some p)
-    → ((k : ℕ) (d : Incident) → k < i → cut_by (get_or xs k d) n ≡ None) → power_at_lem xs n ≡ p
+    → ((k : ℕ) (d : Incident) → k < i → cut_by (get_or xs k d) n ≡ None) → power_due xs n ≡ p
 first_due [] n i p lt is h = absurd (omega arith)
-first_due (x ∷ xs) n zero p lt is h = by_cut x n _ ∙ ap (λ o. unwrap_or o (power_at_lem xs n)) (is x)
-first_due (x ∷ xs) n (suc i) p lt is h = by_cut x n _ ∙ (ap (λ o. unwrap_or o (power_at_lem xs n)) (h 0 x (omega arith)) ∙ first_due xs n i p (omega arith) is (λ k d l. h (suc k) d (omega arith)))
+first_due (x ∷ xs) n zero p lt is h = by_cut x n _ ∙ ap (λ o. unwrap_or o (power_due xs n)) (is x)
+first_due (x ∷ xs) n (suc i) p lt is h = by_cut x n _ ∙ (ap (λ o. unwrap_or o (power_due xs n)) (h 0 x (omega arith)) ∙ first_due xs n i p (omega arith) is (λ k d l. h (suc k) d (omega arith)))
 
 -- a reference to an incident, and what it is
 pub read_as : (o : Option (Bor Incident)) (y : Incident) (n : ℕ) (r : Option Power) → option_map (λ x. x.now) o ≡ Some y → IfSome o (λ x. cut_by x.now n ≡ r) → cut_by y n ≡ r
@@ -57,7 +57,7 @@ module _ {S F : Type 0} {steps : S → Option (Bor Incident) → S → Type 0} {
   pub found_first : (r : Option Power) → p.len ≤ length xs → (p.whole ≡ true → p.len ≡ length xs) → ((k : ℕ) (d : Incident) → k < p.len → option_map (λ y. y.now) (p.at k) ≡ Some (get_or xs k d))
       → MatchOption r ((p.whole ≡ true) × AllItemsGive p g f None) (λ y. (i : ℕ) × (i < p.len) × (p.len ≡ i + 1) × IsFirstToGive p g f (Some y) None i)
       → CallKeepsClosure g f → ((x : Bor Incident) (o : Option Power) (q : F) → Called g f (x, tt) o q → cut_by x.now n ≡ o)
-      → unwrap_or r Stays ≡ power_at_lem xs n
+      → unwrap_or r Stays ≡ power_due xs n
   found_first None fits whole reads found keeps told =
       sym (none_due xs n (λ k d lt. read_as (p.at k) _ n None (reads k d (omega (arith, whole found.0))) (told_if told (p.at k) None (found.1 keeps k))))
   found_first (Some y) fits whole reads found keeps told =

@@ -1,10 +1,13 @@
 -- What a drill shelf means, and what its operations do by the schedule, beside the rules of every shelf.
-use Rattle.std.specs.Prelude.{◌≡◌, ℕ, ◌+◌, ◌-◌, ◌^◌, min, Bool, false, cond, List, Ok, Err}
+use Rattle.std.specs.Prelude.{◌≡◌, ℕ, ◌+◌, ◌-◌, ◌^◌, min, Bool, false, cond, List, Result, Ok, Err}
+use Rattle.answer.specs.declared.Refusal.{Refusal}
 use Rattle.shelf.specs.Meaning.{Meaning}
 use Rattle.shelf.specs.Trials.{Trial, means}
 use Rattle.shelf.specs.Answers.{Answer}
 use Rattle.shelf.specs.declared.Failure.TheVariants.{Off}
-use Rattle.drill.specs.Schedules.{goes, goes_before, power_at_lem}
+use Rattle.drill.specs.Schedules.{goes, goes_before, power_due}
+use Rattle.drill.specs.declared.Control.{Control}
+use Rattle.drill.specs.declared.Control.TheVariants.{Incidents, Choices}
 use Rattle.drill.specs.declared.schedule.Incident.{Incident}
 use Rattle.drill.specs.declared.schedule.Power.{Power}
 use Rattle.drill.specs.declared.schedule.Power.TheVariants.{GoesBefore}
@@ -33,6 +36,11 @@ with_incidents a incidents = drill_of a.inner a.dark a.clock incidents a.choices
 abbrev pub with_choices : Drill → List ℕ → Drill
 with_choices a choices = drill_of a.inner a.dark a.clock a.incidents choices 0
 
+-- what each control sets
+abbrev pub ScheduleSet : Control → Drill → Drill → Result Unit Refusal → Type 0
+ScheduleSet (Incidents is) a b r = (b ≡ with_incidents a is.items) × (r ≡ Ok tt)
+ScheduleSet (Choices ws) a b r = (b ≡ with_choices a ws.items) × (r ≡ Ok tt)
+
 -- a shelf that is off where it is dark, whatever it is else
 abbrev pub darkened : Bool → Meaning → Meaning
 darkened dark a = record {
@@ -40,7 +48,7 @@ darkened dark a = record {
   sectors = a.sectors;
   on = cond dark false a.on;
   present = a.present;
-  settled = a.settled;
+  durable = a.durable;
   current = a.current;
 }
 
@@ -54,7 +62,7 @@ pub record Darkens (a b : Meaning) : Type 0 where
   pub sectors : b.sectors ≡ a.sectors
   pub off : b.on ≡ false
   pub present : (k : ℕ) → b.present k ≡ a.present k
-  pub settled : (k s : ℕ) → b.settled k s ≡ a.settled k s
+  pub durable : (k s : ℕ) → b.durable k s ≡ a.durable k s
   pub current : (k s : ℕ) → b.current k s ≡ a.current k s
 
 -- an operation has begun: it goes on, and the shelf within is what the drill shelf was; or it is cut off
@@ -64,7 +72,7 @@ Begun a b (Err e) = (e ≡ Off) × Darkens (drill_meaning a) (drill_meaning b)
 
 -- what becomes of the power at the next operation
 abbrev pub power_next : Drill → Power
-power_next a = power_at_lem a.incidents a.clock
+power_next a = power_due a.incidents a.clock
 
 -- the clock one operation on
 abbrev pub ticked : ℕ → ℕ

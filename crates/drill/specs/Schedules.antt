@@ -13,9 +13,9 @@ decides CutAfter later = GoesAfter
 decides (Lose m) later = later
 
 -- what becomes of the power at operation n: the first cut that is due decides
-abbrev pub power_at_lem : List Incident → ℕ → Power
-power_at_lem [] n = Stays
-power_at_lem (i ∷ is) n = cond (i.at == n) (decides i.kind (power_at_lem is n)) (power_at_lem is n)
+abbrev pub power_due : List Incident → ℕ → Power
+power_due [] n = Stays
+power_due (i ∷ is) n = cond (i.at == n) (decides i.kind (power_due is n)) (power_due is n)
 
 -- what one incident makes of it at operation n, if it is a cut that is due then
 abbrev pub cut_of : Kind → Option Power
@@ -43,16 +43,16 @@ abbrev pub word_at : List ℕ → ℕ → ℕ
 word_at words n = slice_index words (min n (length words - 1))
 
 -- the losses of m members that are pending, with one more
-abbrev pub lost : ℕ → Kind → List Bool → List Bool
-lost m CutBefore losing = losing
-lost m CutAfter losing = losing
-lost m (Lose k) losing = cond (nat_lt k m) (slice_set losing k true) losing
+abbrev pub losing_with : ℕ → Kind → List Bool → List Bool
+losing_with m CutBefore losing = losing
+losing_with m CutAfter losing = losing
+losing_with m (Lose k) losing = cond (nat_lt k m) (slice_set losing k true) losing
 
 -- where it is due at operation n
-abbrev pub lost_by : ℕ → Incident → ℕ → List Bool → List Bool
-lost_by m i n losing = cond (i.at == n) (lost m i.kind losing) losing
+abbrev pub losing_by : ℕ → Incident → ℕ → List Bool → List Bool
+losing_by m i n losing = cond (i.at == n) (losing_with m i.kind losing) losing
 
 -- with those of the whole schedule
 abbrev pub losing_at : ℕ → List Incident → ℕ → List Bool → List Bool
 losing_at m [] n losing = losing
-losing_at m (i ∷ is) n losing = losing_at m is n (lost_by m i n losing)
+losing_at m (i ∷ is) n losing = losing_at m is n (losing_by m i n losing)

@@ -3,17 +3,19 @@
 
 ghost use Rattle.std.specs.Prelude.{◌≡◌, ◌<◌, true, false, length, Err};
 ghost use Rattle.shelf.specs.Answers.{done};
-ghost use Rattle.shelf.specs.Meaning.{Flushed, Ranged, Reads, Restarts, Writes};
+ghost use Rattle.shelf.specs.Meaning.{Flushed, OperationInRange, Reads, Restarts, Writes};
 ghost use Rattle.shelf.specs.Trials.{means};
-ghost use Rattle.drill.specs.Drills.{Begun, Darkens, DrillRestarts, Drilled, Timed, counted, dark_after, drill_meaning, drill_of, new_drill, power_next, ticked, with_choices, with_incidents};
+ghost use Rattle.drill.specs.Drills.{Begun, Darkens, DrillRestarts, Drilled, ScheduleSet, Timed, counted, dark_after, drill_meaning, drill_of, new_drill, power_next, ticked, with_choices, with_incidents};
 ghost use Rattle.drill.specs.Schedules.{losing_at, word_at};
 ghost use Rattle.shelf.specs.declared.Failure.TheVariants.{Off};
 ghost use Rattle.drill.specs.declared.schedule.Power.TheVariants.{GoesAfter, GoesBefore};
 ghost use Rattle.std.proofs.Common.{rules};
 
+use answer::Refusal;
 use choices::Choices;
 use schedule::Power;
 use sector::Sector;
+use shelf::controlled::Controlled;
 use shelf::image::Image;
 use shelf::trial::TrialShelf;
 use shelf::{Answer, Failure, Shelf};
@@ -24,6 +26,15 @@ mod schedule;
 mod through;
 
 pub use schedule::{Incident, Kind};
+
+// One of its controls, for what is to come; the clock goes on.
+#[derive(Drop)]
+pub enum Control {
+    // another schedule
+    Incidents(Vec<Incident>),
+    // other choice words, from the next restart on
+    Choices(Vec<u32>),
+}
 
 // A trial shelf with a schedule of incidents over it.
 #[derive(Drop)]
@@ -59,20 +70,6 @@ impl DrillShelf {
             incidents,
             choices: Choices::new(choices),
         }
-    }
-
-    // The shelf within, as the operations left it.
-    pub fn into_inner(self) -> TrialShelf
-        ensures { result ≡ self.inner }
-    {
-        let DrillShelf {
-            inner,
-            dark: _,
-            clock: _,
-            incidents: _,
-            choices: _,
-        } = self;
-        inner
     }
 
     // The number of the next operation.
@@ -189,7 +186,7 @@ impl Shelf for DrillShelf {
 
     fn read(&mut self, member: u64, sector: u64, buffer: &mut [u8]) -> Answer
         ensures reads { Reads member sector buffer.old buffer.new (drill_meaning self.old) (drill_meaning self.new) result }
-        ensures drilled { Drilled (Ranged (drill_meaning self.old) member sector (length buffer.old)) self.old self.new result }
+        ensures drilled { Drilled (OperationInRange (drill_meaning self.old) member sector (length buffer.old)) self.old self.new result }
     {
         through::in_range(&self.inner, member, sector, buffer.len())?;
         self.begin()?;
@@ -198,7 +195,7 @@ impl Shelf for DrillShelf {
 
     fn write(&mut self, member: u64, sector: u64, buffer: &[u8]) -> Answer
         ensures writes { Writes member sector buffer.now (drill_meaning self.old) (drill_meaning self.new) result }
-        ensures drilled { Drilled (Ranged (drill_meaning self.old) member sector (length buffer.now)) self.old self.new result }
+        ensures drilled { Drilled (OperationInRange (drill_meaning self.old) member sector (length buffer.now)) self.old self.new result }
     {
         through::in_range(&self.inner, member, sector, buffer.len())?;
         self.begin()?;
@@ -233,5 +230,19 @@ impl Shelf for DrillShelf {
 impl Image for DrillShelf {
     fn current(&self, member: u64, sector: u64) -> Option<Sector> {
         through::current(&self.inner, member, sector)
+    }
+}
+
+impl Controlled for DrillShelf {
+    type Control = Control;
+
+    ghost sets = { ScheduleSet };
+
+    fn control(&mut self, control: Control) -> Result<(), Refusal> {
+        match control {
+            Control::Incidents(incidents) => self.set_incidents(incidents),
+            Control::Choices(choices) => self.set_choices(choices),
+        }
+        Ok(())
     }
 }

@@ -1,7 +1,7 @@
 // Schedules: what is to happen at which operation.
 ghost use Rattle.std.specs.Prelude.{◌≡◌};
 ghost use Rattle.shelf.specs.Trials.{means};
-ghost use Rattle.drill.specs.Schedules.{cut_by, losing_at, lost_by, power_at_lem};
+ghost use Rattle.drill.specs.Schedules.{cut_by, losing_at, losing_by, power_due};
 
 use shelf::trial::TrialShelf;
 
@@ -49,8 +49,8 @@ impl Incident {
 }
 
 // What becomes of the power at an operation: the first cut that is due decides.
-pub fn power_at(incidents: &[Incident], clock: u64) -> Power
-    ensures { result ≡ power_at_lem incidents.now clock }
+pub(crate) fn power_at(incidents: &[Incident], clock: u64) -> Power
+    ensures { result ≡ power_due incidents.now clock }
 {
     incidents
         .iter()
@@ -61,7 +61,7 @@ pub fn power_at(incidents: &[Incident], clock: u64) -> Power
 // Has the shelf lose the member of an incident, where it is a loss and due.
 fn lose_one(shelf: &mut TrialShelf, incident: Incident, clock: u64)
     ensures meaning { means shelf.new ≡ means shelf.old }
-    ensures losing { let a = shelf.old in shelf.new.controls.losing ≡ lost_by a.members incident clock a.controls.losing }
+    ensures losing { let a = shelf.old in shelf.new.controls.losing ≡ losing_by a.members incident clock a.controls.losing }
 {
     if incident.at == clock {
         if let Kind::Lose(member) = incident.kind {
@@ -72,7 +72,7 @@ fn lose_one(shelf: &mut TrialShelf, incident: Incident, clock: u64)
 }
 
 // Has the shelf lose the members that are due at an operation.
-pub fn lose_due(shelf: &mut TrialShelf, incidents: &[Incident], clock: u64)
+pub(crate) fn lose_due(shelf: &mut TrialShelf, incidents: &[Incident], clock: u64)
     ensures meaning { means shelf.new ≡ means shelf.old }
     ensures losing { let a = shelf.old in shelf.new.controls.losing ≡ losing_at a.members incidents.now clock a.controls.losing }
 {

@@ -9,7 +9,7 @@ use shelf::image::Image;
 use shelf::{Answer, Failure, Shelf};
 
 // Refuses a read or a write out of range, by what every shelf tells of itself: the shelf within tests so again, but in its operations.
-pub fn in_range<S: Shelf>(shelf: &S, member: u64, sector: u64, length: usize) -> Answer
+pub(crate) fn in_range<S: Shelf>(shelf: &S, member: u64, sector: u64, length: usize) -> Answer
     ensures { InRangeIs (S.Shelf.meaning shelf.now) member sector length result }
 {
     if member < shelf.members() && sector < shelf.sectors() && length == SECTOR {
@@ -20,7 +20,7 @@ pub fn in_range<S: Shelf>(shelf: &S, member: u64, sector: u64, length: usize) ->
 }
 
 // Refuses a flush of a member that the shelf has not, present or absent.
-pub fn has_member<S: Shelf>(shelf: &S, member: u64) -> Answer
+pub(crate) fn has_member<S: Shelf>(shelf: &S, member: u64) -> Answer
     ensures { MemberIs (S.Shelf.meaning shelf.now) member result }
 {
     if member < shelf.members() {
@@ -30,31 +30,31 @@ pub fn has_member<S: Shelf>(shelf: &S, member: u64) -> Answer
     }
 }
 
-pub fn read<S: Shelf>(shelf: &mut S, member: u64, sector: u64, buffer: &mut [u8]) -> Answer
+pub(crate) fn read<S: Shelf>(shelf: &mut S, member: u64, sector: u64, buffer: &mut [u8]) -> Answer
     ensures { Reads member sector buffer.old buffer.new (S.Shelf.meaning shelf.old) (S.Shelf.meaning shelf.new) result }
 {
     shelf.read(member, sector, buffer)
 }
 
-pub fn write<S: Shelf>(shelf: &mut S, member: u64, sector: u64, buffer: &[u8]) -> Answer
+pub(crate) fn write<S: Shelf>(shelf: &mut S, member: u64, sector: u64, buffer: &[u8]) -> Answer
     ensures { Writes member sector buffer.now (S.Shelf.meaning shelf.old) (S.Shelf.meaning shelf.new) result }
 {
     shelf.write(member, sector, buffer)
 }
 
-pub fn flush<S: Shelf>(shelf: &mut S, member: u64) -> Answer
+pub(crate) fn flush<S: Shelf>(shelf: &mut S, member: u64) -> Answer
     ensures { Flushed member (S.Shelf.meaning shelf.old) (S.Shelf.meaning shelf.new) result }
 {
     shelf.flush(member)
 }
 
-pub fn restart<S: Shelf>(shelf: &mut S) -> bool
+pub(crate) fn restart<S: Shelf>(shelf: &mut S) -> bool
     ensures { Restarts (S.Shelf.meaning shelf.old) (S.Shelf.meaning shelf.new) result }
 {
     shelf.restart()
 }
 
-pub fn current<S: Image>(shelf: &S, member: u64, sector: u64) -> Option<Sector>
+pub(crate) fn current<S: Image>(shelf: &S, member: u64, sector: u64) -> Option<Sector>
     ensures { Shown member sector (S.Shelf.meaning shelf.now) result }
 {
     shelf.current(member, sector)

@@ -2,8 +2,8 @@
 use Rattle.std.proofs.Common.{◌≡◌, ℕ, ◌+◌, ◌*◌, ◌<◌, ◌≤◌, Bool, true, false, cond, ltb, ◌⊎◌, List, [], length, get_or, take, sym, refl, ap, ◌∙◌, subst, inl, inr, zero-add, arith}
 use Rattle.std.proofs.lemmas.Bool.{cases_Bool, cases_lt, cases_order, cond-true, cond-false, lt-ltb, le-ltb, both_ways}
 use Rattle.shelf.specs.Meaning.{OneContent, Restarts, Untouched}
-use Rattle.shelf.specs.Runs.{ChosenAlone, chosen_bit, chosen_of, image_of, sector_at}
-use Rattle.shelf.specs.Trials.{BroughtAlone, BroughtOneAlone, Trial, TrialRestarts, means, restarted, trial_meaning}
+use Rattle.shelf.specs.Runs.{Chosen, chosen_bit, chosen_of, image_of, sector_at}
+use Rattle.shelf.specs.Trials.{Brought, BroughtOne, Trial, TrialRestarts, means, restarted, trial_meaning}
 use Rattle.shelf.specs.declared.controls.Controls.{Controls}
 use Rattle.shelf.proofs.Cells.{cell_inside, image_in, image_same, member_end}
 
@@ -27,24 +27,24 @@ gone_of c k u less way = elim way [ inl le ↦ absurd (omega arith) | inr gone �
 
 -- a present member more
 there_more : (m z : ℕ) (c : Controls) (u : ℕ) (old run new : List ℕ) → u < m → m * z * 2 * 512 ≤ length old → get_or c.present u false ≡ true
-    → BroughtAlone m z c u old run → ChosenAlone c.choice (m * z) (u * z) (u * z + z) run new → BroughtAlone m z c (u + 1) old new
+    → Brought m z c u old run → Chosen c.choice (m * z) (u * z) (u * z + z) run new → Brought m z c (u + 1) old new
 there_more m z c u old run new lt whole there b ch = record {
   long = ch.long ∙ b.long;
-  settled = λ k s a t p. elim (cases_lt k u) [
-    | inl less ↦ ch.below (k * z + s) (omega (arith, member_end z k u less)) ∙ b.settled k s less t p
+  durable = λ k s a t p. elim (cases_lt k u) [
+    | inl less ↦ ch.below (k * z + s) (omega (arith, member_end z k u less)) ∙ b.durable k s less t p
     | inr more ↦ (let e : k ≡ u = omega arith in
         ch.here (k * z + s) (omega (arith, ap (λ x. x * z) e)) (omega (arith, ap (λ x. x * z) e))
-        ∙ chosen_same c.choice (m * z) old run (k * z + s) (b.rest_settled k s (omega arith) t (inl more)) (b.rest_current k s (omega arith) t (inl more)))
+        ∙ chosen_same c.choice (m * z) old run (k * z + s) (b.rest_durable k s (omega arith) t (inl more)) (b.rest_current k s (omega arith) t (inl more)))
   ];
   current = λ k s a t p. elim (cases_lt k u) [
     | inl less ↦ ch.between (m * z + (k * z + s)) (omega (arith, member_end z u m lt)) (omega (arith, member_end z k u less)) ∙ b.current k s less t p
     | inr more ↦ (let e : k ≡ u = omega arith in
         ch.there (k * z + s) (omega (arith, ap (λ x. x * z) e)) (omega (arith, ap (λ x. x * z) e))
-        ∙ chosen_same c.choice (m * z) old run (k * z + s) (b.rest_settled k s (omega arith) t (inl more)) (b.rest_current k s (omega arith) t (inl more)))
+        ∙ chosen_same c.choice (m * z) old run (k * z + s) (b.rest_durable k s (omega arith) t (inl more)) (b.rest_current k s (omega arith) t (inl more)))
   ];
-  rest_settled = λ k s a t way. elim (other_member c k u there way) [
-    | inl less ↦ ch.below (k * z + s) (omega (arith, member_end z k u less)) ∙ b.rest_settled k s a t (inr (gone_of c k u less way))
-    | inr more ↦ ch.between (k * z + s) (omega (arith, member_end z u k more)) (omega (arith, cell_inside m z k s a t)) ∙ b.rest_settled k s a t (inl (omega arith))
+  rest_durable = λ k s a t way. elim (other_member c k u there way) [
+    | inl less ↦ ch.below (k * z + s) (omega (arith, member_end z k u less)) ∙ b.rest_durable k s a t (inr (gone_of c k u less way))
+    | inr more ↦ ch.between (k * z + s) (omega (arith, member_end z u k more)) (omega (arith, cell_inside m z k s a t)) ∙ b.rest_durable k s a t (inl (omega arith))
   ];
   rest_current = λ k s a t way. elim (other_member c k u there way) [
     | inl less ↦ ch.between (m * z + (k * z + s)) (omega (arith, member_end z u m lt)) (omega (arith, member_end z k u less)) ∙ b.rest_current k s a t (inr (gone_of c k u less way))
@@ -54,12 +54,12 @@ there_more m z c u old run new lt whole there b ch = record {
 }
 
 -- an absent member more: nothing happens to it
-gone_more : (m z : ℕ) (c : Controls) (u : ℕ) (old run : List ℕ) → get_or c.present u false ≡ false → BroughtAlone m z c u old run → BroughtAlone m z c (u + 1) old run
+gone_more : (m z : ℕ) (c : Controls) (u : ℕ) (old run : List ℕ) → get_or c.present u false ≡ false → Brought m z c u old run → Brought m z c (u + 1) old run
 gone_more m z c u old run gone b = record {
   long = b.long;
-  settled = λ k s a t p. b.settled k s (below k a p) t p;
+  durable = λ k s a t p. b.durable k s (below k a p) t p;
   current = λ k s a t p. b.current k s (below k a p) t p;
-  rest_settled = λ k s a t way. b.rest_settled k s a t (elim way [ inl le ↦ inl (omega arith) | inr g ↦ inr g ]);
+  rest_durable = λ k s a t way. b.rest_durable k s a t (elim way [ inl le ↦ inl (omega arith) | inr g ↦ inr g ]);
   rest_current = λ k s a t way. b.rest_current k s a t (elim way [ inl le ↦ inl (omega arith) | inr g ↦ inr g ]);
   rest = b.rest;
 }
@@ -70,19 +70,19 @@ gone_more m z c u old run gone b = record {
       | inr o ↦ elim o [ inl less ↦ less | inr more ↦ absurd (omega arith) ]
     ]
 
-pub brought_more : (m z : ℕ) (c : Controls) (u : ℕ) (old run new : List ℕ) → u < m → m * z * 2 * 512 ≤ length old → BroughtAlone m z c u old run
-    → BroughtOneAlone m z c u run new → BroughtAlone m z c (u + 1) old new
+pub brought_more : (m z : ℕ) (c : Controls) (u : ℕ) (old run new : List ℕ) → u < m → m * z * 2 * 512 ≤ length old → Brought m z c u old run
+    → BroughtOne m z c u run new → Brought m z c (u + 1) old new
 brought_more m z c u old run new lt whole b one =
     elim (cases_Bool (get_or c.present u false)) [
       | inl there ↦ there_more m z c u old run new lt whole there b (one.there there)
-      | inr gone ↦ subst (BroughtAlone m z c (u + 1) old) (sym (one.gone gone)) (gone_more m z c u old run gone b)
+      | inr gone ↦ subst (Brought m z c (u + 1) old) (sym (one.gone gone)) (gone_more m z c u old run gone b)
     ]
 
 -- a sector that a restart leaves, and one that it makes one
-sector_left : (m z : ℕ) (c : Controls) (old new : List ℕ) (k s : ℕ) → BroughtAlone m z c m old new → (trial_meaning m z old c).present k ≡ false
+sector_left : (m z : ℕ) (c : Controls) (old new : List ℕ) (k s : ℕ) → Brought m z c m old new → (trial_meaning m z old c).present k ≡ false
     → Untouched (trial_meaning m z old c) (trial_meaning m z new (restarted c)) k s
 sector_left m z c old new k s b gone = record {
-  settled = image_same m z old new 0 k s (λ a t. ap (sector_at new) (zero-add (k * z + s)) ∙ (b.rest_settled k s a t (inr (sym (cond-true (ltb k m) _ _ (lt-ltb k m a)) ∙ gone)) ∙ ap (sector_at old) (sym (zero-add (k * z + s)))));
+  durable = image_same m z old new 0 k s (λ a t. ap (sector_at new) (zero-add (k * z + s)) ∙ (b.rest_durable k s a t (inr (sym (cond-true (ltb k m) _ _ (lt-ltb k m a)) ∙ gone)) ∙ ap (sector_at old) (sym (zero-add (k * z + s)))));
   current = image_same m z old new (m * z) k s (λ a t. b.rest_current k s a t (inr (sym (cond-true (ltb k m) _ _ (lt-ltb k m a)) ∙ gone)));
 }
 
@@ -92,7 +92,7 @@ present_below m z c run k p = elim (cases_lt k m) [
   | inr le ↦ absurd (both_ways ((trial_meaning m z run c).present k) (cond-false (ltb k m) _ _ (le-ltb k m le)) p)
 ]
 
-sector_one : (m z : ℕ) (c : Controls) (old new : List ℕ) (k s : ℕ) → BroughtAlone m z c m old new → (trial_meaning m z old c).present k ≡ true
+sector_one : (m z : ℕ) (c : Controls) (old new : List ℕ) (k s : ℕ) → Brought m z c m old new → (trial_meaning m z old c).present k ≡ true
     → OneContent (trial_meaning m z old c) (trial_meaning m z new (restarted c)) k s
 sector_one m z c old new k s b there =
     let lt : k < m = present_below m z c old k there in
@@ -104,7 +104,7 @@ sector_one m z c old new k s b there =
       }
       | inl t ↦
           (let set_is : image_of m z new 0 k s ≡ chosen_of c.choice (m * z) old (k * z + s) =
-          image_in m z new 0 k s lt t ∙ (ap (sector_at new) (zero-add (k * z + s)) ∙ b.settled k s lt t here) in
+          image_in m z new 0 k s lt t ∙ (ap (sector_at new) (zero-add (k * z + s)) ∙ b.durable k s lt t here) in
           let cur-is : image_of m z new (m * z) k s ≡ chosen_of c.choice (m * z) old (k * z + s) =
           image_in m z new (m * z) k s lt t ∙ b.current k s lt t here in
           record {
@@ -140,5 +140,5 @@ restarts a b r h =
     })
 
 -- the same, by other names of the same
-pub brought_as : (m z : ℕ) (c : Controls) (u : ℕ) (old was new now : List ℕ) → old ≡ was → now ≡ new → BroughtAlone m z c u old new → BroughtAlone m z c u was now
-brought_as m z c u old was new now e f b = subst (λ l. BroughtAlone m z c u l now) e (subst (λ l. BroughtAlone m z c u old l) (sym f) b)
+pub brought_as : (m z : ℕ) (c : Controls) (u : ℕ) (old was new now : List ℕ) → old ≡ was → now ≡ new → Brought m z c u old new → Brought m z c u was now
+brought_as m z c u old was new now e f b = subst (λ l. Brought m z c u l now) e (subst (λ l. Brought m z c u old l) (sym f) b)

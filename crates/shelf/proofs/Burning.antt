@@ -5,6 +5,7 @@ use Rattle.shelf.specs.Fuses.{ControlsStand, struck_by}
 use Rattle.shelf.specs.Trials.{burnt, struck}
 use Rattle.shelf.specs.declared.controls.Controls.{Controls}
 use Rattle.shelf.proofs.Trially.{set_false}
+use Rattle.shelf.specs.declared.controls.TheConstants.{NEVER}
 
 -- one operation while the shelf is on
 on_after : (c : Controls) (m : ℕ) → c.on ≡ true → (c.fuse ≡ 0 → ⊥) → (struck c m).on ≡ true
@@ -16,10 +17,10 @@ fuse_after c m on ne = ap (λ (d : Controls). d.fuse) (cond-true c.on _ _ on) �
 cut_after : (c : Controls) (m : ℕ) → c.on ≡ true → c.fuse ≡ 0 → (struck c m).on ≡ false
 cut_after c m on e = ap (λ (d : Controls). d.on) (cond-true c.on _ _ on) ∙ cond-true (eqb c.fuse 0) _ _ (eq-eqb c.fuse 0 e)
 
-burns : (c : Controls) (m : ℕ) → c.on ≡ true → (c.fuse ≡ 0 → ⊥) → c.fuse < 4294967295 → (struck c m).fuse ≡ c.fuse - 1
-burns c m on ne lt = fuse_after c m on ne ∙ cond-true (ltb c.fuse 4294967295) _ _ (lt-ltb c.fuse 4294967295 lt)
+burns : (c : Controls) (m : ℕ) → c.on ≡ true → (c.fuse ≡ 0 → ⊥) → c.fuse < NEVER → (struck c m).fuse ≡ c.fuse - 1
+burns c m on ne lt = fuse_after c m on ne ∙ cond-true (ltb c.fuse NEVER) _ _ (lt-ltb c.fuse NEVER lt)
 
-passes : (c : Controls) (ms : List ℕ) → c.on ≡ true → c.fuse < 4294967295 → length ms ≤ c.fuse
+passes : (c : Controls) (ms : List ℕ) → c.on ≡ true → c.fuse < NEVER → length ms ≤ c.fuse
     → ((struck_by c ms).on ≡ true) × ((struck_by c ms).fuse ≡ c.fuse - length ms)
 passes c [] on lt le = (on, omega arith)
 passes c (m ∷ ms) on lt le =
@@ -27,10 +28,10 @@ passes c (m ∷ ms) on lt le =
     let rest = passes (struck c m) ms (on_after c m on (λ e. omega arith)) (omega (arith, less)) (omega (arith, less)) in
     (rest.0, omega (arith, rest.1, less))
 
-never : (c : Controls) (ms : List ℕ) → c.on ≡ true → c.fuse ≡ 4294967295 → ((struck_by c ms).on ≡ true) × ((struck_by c ms).fuse ≡ 4294967295)
+never : (c : Controls) (ms : List ℕ) → c.on ≡ true → c.fuse ≡ NEVER → ((struck_by c ms).on ≡ true) × ((struck_by c ms).fuse ≡ NEVER)
 never c [] on e = (on, e)
 never c (m ∷ ms) on e =
-    let same : (struck c m).fuse ≡ c.fuse = fuse_after c m on (λ z. omega arith) ∙ cond-false (ltb c.fuse 4294967295) _ _ (le-ltb c.fuse 4294967295 (omega arith)) in
+    let same : (struck c m).fuse ≡ c.fuse = fuse_after c m on (λ z. omega arith) ∙ cond-false (ltb c.fuse NEVER) _ _ (le-ltb c.fuse NEVER (omega arith)) in
     never (struck c m) ms (on_after c m on (λ z. omega arith)) (same ∙ e)
 
 off : (c : Controls) (ms : List ℕ) → c.on ≡ false → struck_by c ms ≡ c

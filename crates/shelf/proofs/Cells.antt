@@ -5,7 +5,7 @@ use lib.Seq.{paste}
 use Rattle.std.proofs.lemmas.List.Edits.{length-paste}
 use Rattle.std.proofs.lemmas.Nat.{mul-le, mul-add-lt, div-mul-add, mod-mul-add}
 use Rattle.std.proofs.lemmas.Bool.{cases_lt, cases_order, cond-true, cond-false, lt-ltb, le-ltb}
-use Rattle.shelf.specs.Runs.{Has, PulledAlone, image_of, sector_at, sector_put}
+use Rattle.shelf.specs.Runs.{RunHasSector, Pulled, image_of, sector_at, sector_put}
 
 pub put_length : (run : List ℕ) (at : ℕ) (bytes : List ℕ) → at * 512 + 512 ≤ length run → length bytes ≡ 512 → length (sector_put run at bytes) ≡ length run
 put_length run at bytes h e = length-paste run (at * 512) bytes 512 h (omega arith)
@@ -88,11 +88,11 @@ image_put m z run base at bytes k s h e a b same =
     image_in m z (sector_put run at bytes) base k s a b ∙ (ap (sector_at (sector_put run at bytes)) same ∙ put_same run at bytes h e)
 
 -- one sector more is pulled
-pub pull_more : (image first at : ℕ) (old run new : List ℕ) → first ≤ at → at < image → Has old (image + at) → PulledAlone image first at old run
-    → new ≡ sector_put run at (sector_at run (image + at)) → PulledAlone image first (at + 1) old new
+pub pull_more : (image first at : ℕ) (old run new : List ℕ) → first ≤ at → at < image → RunHasSector old (image + at) → Pulled image first at old run
+    → new ≡ sector_put run at (sector_at run (image + at)) → Pulled image first (at + 1) old new
 pull_more image first at old run new le lt has p e =
-    let here : Has run at = omega (arith, p.long) in
-    let there : Has run (image + at) = omega (arith, p.long) in
+    let here : RunHasSector run at = omega (arith, p.long) in
+    let there : RunHasSector run (image + at) = omega (arith, p.long) in
     let size = sector_length run (image + at) there in
     rw e (record {
       long = put_length run at (sector_at run (image + at)) here size ∙ p.long;

@@ -1,7 +1,7 @@
 -- A restart makes one content of two, sector by sector.
 use Rattle.std.proofs.Common.{◌≡◌, ℕ, ◌+◌, ◌*◌, ◌<◌, ◌≤◌, cond, ◌⊎◌, List, length, take, drop, sym, refl, ap, ◌∙◌, inl, inr, arith}
 use Rattle.std.proofs.lemmas.Bool.{cases_Bool, cases_order, cond-true, cond-false}
-use Rattle.shelf.specs.Runs.{ChosenAlone, Has, chosen_bit, chosen_of, sector_at, sector_put}
+use Rattle.shelf.specs.Runs.{Chosen, RunHasSector, chosen_bit, chosen_of, sector_at, sector_put}
 use Rattle.shelf.proofs.Cells.{put_after, put_length, put_other, put_same, sector_length}
 
 -- one sector was written over by another, which is then what both hold
@@ -9,10 +9,10 @@ record Joined (run new : List ℕ) (from to : ℕ) : Type 0 where
   long : length new ≡ length run
   to_is : sector_at new to ≡ sector_at run from
   from_is : sector_at new from ≡ sector_at run from
-  others : (q : ℕ) → Has run q → (q ≡ to → ⊥) → sector_at new q ≡ sector_at run q
+  others : (q : ℕ) → RunHasSector run q → (q ≡ to → ⊥) → sector_at new q ≡ sector_at run q
   rest : (i : ℕ) → to * 512 + 512 ≤ i → drop i new ≡ drop i run
 
-join : (run new : List ℕ) (from to : ℕ) → Has run from → Has run to → (from ≡ to → ⊥) → new ≡ sector_put run to (sector_at run from) → Joined run new from to
+join : (run new : List ℕ) (from to : ℕ) → RunHasSector run from → RunHasSector run to → (from ≡ to → ⊥) → new ≡ sector_put run to (sector_at run from) → Joined run new from to
 join run new from to hf ht ne e =
     let size = sector_length run from hf in
     rw e (record {
@@ -24,9 +24,9 @@ join run new from to hf ht ne e =
     })
 
 -- either way of the choice: from and to are the two sectors
-step : (choice image first at : ℕ) (old run new : List ℕ) (from to : ℕ) → first ≤ at → at < image → Has old (image + at)
+step : (choice image first at : ℕ) (old run new : List ℕ) (from to : ℕ) → first ≤ at → at < image → RunHasSector old (image + at)
     → ((from ≡ image + at) × (to ≡ at)) ⊎ ((from ≡ at) × (to ≡ image + at)) → chosen_of choice image old at ≡ sector_at old from
-    → ChosenAlone choice image first at old run → Joined run new from to → ChosenAlone choice image first (at + 1) old new
+    → Chosen choice image first at old run → Joined run new from to → Chosen choice image first (at + 1) old new
 step choice image first at old run new from to le lt has way pick c j =
     let from_old : sector_at run from ≡ sector_at old from = elim way [
       | inl w ↦ ap (sector_at run) w.0 ∙ (ap (take 512) (c.rest ((image + at) * 512) (omega arith)) ∙ ap (sector_at old) (sym w.0))
@@ -60,12 +60,12 @@ step choice image first at old run new from to le lt has way pick c j =
       rest = λ i a. j.rest i (elim way [ inl w ↦ omega arith | inr w ↦ omega arith ]) ∙ c.rest i (omega arith);
     }
 
-pub choose_more : (choice image first at : ℕ) (old run new : List ℕ) → first ≤ at → at < image → Has old (image + at) → ChosenAlone choice image first at old run
+pub choose_more : (choice image first at : ℕ) (old run new : List ℕ) → first ≤ at → at < image → RunHasSector old (image + at) → Chosen choice image first at old run
     → new ≡ cond (chosen_bit choice at) (sector_put run at (sector_at run (image + at))) (sector_put run (image + at) (sector_at run at))
-    → ChosenAlone choice image first (at + 1) old new
+    → Chosen choice image first (at + 1) old new
 choose_more choice image first at old run new le lt has c e =
-    let there : Has run (image + at) = omega (arith, c.long) in
-    let here : Has run at = omega (arith, c.long) in
+    let there : RunHasSector run (image + at) = omega (arith, c.long) in
+    let here : RunHasSector run at = omega (arith, c.long) in
     elim (cases_Bool (chosen_bit choice at)) [
       | inl yes-bit ↦ step choice image first at old run new (image + at) at le lt has (inl (refl, refl)) (cond-true (chosen_bit choice at) _ _ yes-bit) c
           (join run new (image + at) at there here (λ d. omega arith) (e ∙ cond-true (chosen_bit choice at) _ _ yes-bit))

@@ -1,13 +1,13 @@
 -- The laws of the relation.
 use Rattle.std.proofs.Common.{◌≡◌, ℕ, ◌<◌, Bool, true, false, eqb, ◌⊎◌, List, length, sym, refl, ap, ◌∙◌, subst, inl, inr, arith, Ok, Err}
 use Rattle.std.proofs.lemmas.Bool.{both_ways, cases_Bool, cases_eq, cases_lt, cond-false, cond-true, eq-eqb, ne_eqb}
-use Rattle.shelf.specs.Meaning.{FlushIn, Flushed, Gives, Kept, Meaning, OneContent, Ranged, ReadIn, Reads, Restarts, Sets, Settles, Tells, Untouched, WriteIn, Writes}
-use Rattle.shelf.specs.Relation.{Allows, Both, Keeps, Repeats, Stays, brought_out, cut, lost, member_settled, partly_out, picked, some_settled, written, written_amid}
+use Rattle.shelf.specs.Meaning.{FlushIn, Flushed, LeavesBuffer, OthersStay, Meaning, OneContent, OperationInRange, ReadIn, Reads, Restarts, Sets, Persists, AnswerTells, Untouched, WriteIn, Writes}
+use Rattle.shelf.specs.Relation.{Allows, Both, Remembers, Repeats, Stays, brought_out, cut, without_member, member_durable, partly_out, picked, some_durable, with_current, with_current_amid}
 use Rattle.shelf.specs.Answers.{Answer, done}
 use Rattle.shelf.specs.declared.Failure.TheVariants.{Absent, Off, OutOfRange}
 
 -- in range or not
-ranged : (a : Meaning) (m s n : ℕ) → Ranged a m s n ⊎ (Ranged a m s n → ⊥)
+ranged : (a : Meaning) (m s n : ℕ) → OperationInRange a m s n ⊎ (OperationInRange a m s n → ⊥)
 ranged a m s n = elim (cases_lt m a.members) [
   | inr no_member ↦ inr (λ q. let h = q.member_below in omega arith)
   | inl member ↦ elim (cases_lt s a.sectors) [
@@ -23,14 +23,14 @@ done_refused : ◌≡◌ {A = Answer} done (Err OutOfRange) → ⊥
 done_refused e = let z : ◌≡◌ {A = ℕ} 0 1 = cc in omega arith
 
 -- the arguments of the second of two operations
-ranged_next : (a b : Meaning) (k m s n l : ℕ) → Kept k a b → l ≡ n → Ranged a m s l → Ranged b m s n
+ranged_next : (a b : Meaning) (k m s n l : ℕ) → OthersStay k a b → l ≡ n → OperationInRange a m s l → OperationInRange b m s n
 ranged_next a b k m s n l e f q = record {
   member_below = subst (λ x. m < x) (sym e.members) q.member_below;
   sector_below = subst (λ x. s < x) (sym e.sectors) q.sector_below;
   long = sym f ∙ q.long;
 }
 
-kept_twice : (m : ℕ) (a b c : Meaning) → Kept m a b → Kept m b c → Kept m a c
+kept_twice : (m : ℕ) (a b c : Meaning) → OthersStay m a b → OthersStay m b c → OthersStay m a c
 kept_twice m a b c f g = record {
   members = g.members ∙ f.members;
   sectors = g.sectors ∙ f.sectors;
@@ -40,10 +40,10 @@ kept_twice m a b c f g = record {
 }
 
 -- what was current in between was so before or is so after
-settles_twice : (a b c : Meaning) → ((k s : ℕ) → (b.current k s ≡ a.current k s) ⊎ (b.current k s ≡ c.current k s)) → Settles a b → Settles b c → Settles a c
-settles_twice a b c way f g = record {
-  settled = λ k s. elim (g.settled k s) [
-    | inl e ↦ elim (f.settled k s) [
+persists_twice : (a b c : Meaning) → ((k s : ℕ) → (b.current k s ≡ a.current k s) ⊎ (b.current k s ≡ c.current k s)) → Persists a b → Persists b c → Persists a c
+persists_twice a b c way f g = record {
+  durable = λ k s. elim (g.durable k s) [
+    | inl e ↦ elim (f.durable k s) [
       | inl d ↦ inl (e ∙ d)
       | inr o ↦ elim o [ inl d ↦ inr (inl (e ∙ d)) | inr d ↦ elim (way k s) [ inl w ↦ inr (inl (e ∙ (d ∙ w))) | inr w ↦ inr (inr (e ∙ (d ∙ w))) ] ]
     ]
@@ -58,13 +58,13 @@ read_twice m s old mid other new a b c r t long f g = record {
       let second = g.inside (ranged_next a b m m s (length other) (length other) first.kept refl q) in
       record {
         kept = kept_twice m a b c first.kept second.kept;
-        settles = settles_twice a b c (λ k i. inl (first.current k i)) first.settles second.settles;
+        persists = persists_twice a b c (λ k i. inl (first.current k i)) first.persists second.persists;
         current = λ k i. second.current k i ∙ first.current k i;
         tells = second.tells;
-        gives = subst (λ x. Gives t x other new) (first.current m s) second.gives;
+        gives = subst (λ x. LeavesBuffer t x other new) (first.current m s) second.gives;
       });
   outside = λ no. (let first = f.outside (λ q. no (record { member_below = q.member_below; sector_below = q.sector_below; long = long ∙ q.long })) in
-      let second = g.outside (λ q. no (subst (λ (x : Meaning). Ranged x m s (length other)) first.1 q)) in
+      let second = g.outside (λ q. no (subst (λ (x : Meaning). OperationInRange x m s (length other)) first.1 q)) in
       (second.0, second.1 ∙ first.1, second.2));
 }
 
@@ -75,7 +75,7 @@ sets_or (Err Absent) content old new e = inl e
 sets_or (Err Off) content old new e = e
 sets_or (Err OutOfRange) content old new e = inl e
 
-sets_twice : (t : Answer) (m : ℕ) (c : Meaning) (content old mid new : List ℕ) → (t ≡ Err Absent → ⊥) → Tells t m c → (mid ≡ old) ⊎ (mid ≡ content)
+sets_twice : (t : Answer) (m : ℕ) (c : Meaning) (content old mid new : List ℕ) → (t ≡ Err Absent → ⊥) → AnswerTells t m c → (mid ≡ old) ⊎ (mid ≡ content)
     → Sets t content mid new → Sets t content old new
 sets_twice (Ok x) m c content old mid new ne tell way e = e
 sets_twice (Err Absent) m c content old mid new ne tell way e = absurd (ne refl)
@@ -90,13 +90,13 @@ write_twice m s content a b c r t ne f g = record {
       let way = sets_or r content (a.current m s) (b.current m s) first.sets in
       record {
         kept = kept_twice m a b c first.kept second.kept;
-        settles = settles_twice a b c (between first second) first.settles second.settles;
+        persists = persists_twice a b c (between first second) first.persists second.persists;
         elsewhere = λ k i apart. second.elsewhere k i apart ∙ first.elsewhere k i apart;
         tells = second.tells;
         sets = sets_twice t m c content (a.current m s) (b.current m s) (c.current m s) ne second.tells way second.sets;
       });
   outside = λ no. (let first = f.outside no in
-      let second = g.outside (λ q. no (subst (λ (x : Meaning). Ranged x m s (length content)) first.1 q)) in
+      let second = g.outside (λ q. no (subst (λ (x : Meaning). OperationInRange x m s (length content)) first.1 q)) in
       (second.0, second.1 ∙ first.1));
 }
   where
@@ -122,7 +122,7 @@ flush_twice m a b c r t f g = record {
       let second = g.inside (subst (λ x. m < x) (sym first.kept.members) q) in
       record {
         kept = kept_twice m a b c first.kept second.kept;
-        settles = settles_twice a b c (λ k i. inl (first.current k i)) first.settles second.settles;
+        persists = persists_twice a b c (λ k i. inl (first.current k i)) first.persists second.persists;
         current = λ k i. second.current k i ∙ first.current k i;
         tells = second.tells;
         flushes = second.flushes;
@@ -140,14 +140,14 @@ one_twice : (a b c : Meaning) (k s : ℕ) → OneContent a b k s ⊎ Untouched a
 one_twice a b c k s f g = record {
   both = g.both;
   one = elim f [
-    | inr u ↦ elim g.one [ inl e ↦ inl (e ∙ u.settled) | inr e ↦ inr (e ∙ u.current) ]
+    | inr u ↦ elim g.one [ inl e ↦ inl (e ∙ u.durable) | inr e ↦ inr (e ∙ u.current) ]
     | inl o ↦ (let e : c.current k s ≡ b.current k s = elim g.one [ inl e ↦ e ∙ o.both | inr e ↦ e ] in
         elim o.one [ inl w ↦ inl (e ∙ w) | inr w ↦ inr (e ∙ w) ])
   ];
 }
 
 untouched_twice : (a b c : Meaning) (k s : ℕ) → Untouched a b k s → Untouched b c k s → Untouched a c k s
-untouched_twice a b c k s f g = record { settled = g.settled ∙ f.settled; current = g.current ∙ f.current }
+untouched_twice a b c k s f g = record { durable = g.durable ∙ f.durable; current = g.current ∙ f.current }
 
 restart_twice : (a b c : Meaning) (r t : Bool) → Restarts a b r → Restarts b c t → Restarts a c t
 restart_twice a b c r t f g = record {
@@ -162,7 +162,7 @@ restart_twice a b c r t f g = record {
     | inr u ↦ elim (either a b r k s f there) [
       | inr v ↦ inr (untouched_twice a b c k s v u)
       | inl o ↦ inl (record {
-        both = u.settled ∙ (o.both ∙ sym u.current);
+        both = u.durable ∙ (o.both ∙ sym u.current);
         one = elim o.one [ inl w ↦ inl (u.current ∙ w) | inr w ↦ inr (u.current ∙ w) ];
       })
     ]
@@ -186,14 +186,14 @@ lasts : (m s : ℕ) (a b c : Meaning) (r : Bool) → Flushed m a b done → Rest
 lasts m s a b c r f g =
     let done = flush_in m a b f in
     let now : b.current m s ≡ a.current m s = done.current m s in
-    let settled : b.settled m s ≡ a.current m s = done.flushes s ∙ now in
+    let durable : b.durable m s ≡ a.current m s = done.flushes s ∙ now in
     elim (either b c r m s g done.tells.1) [
-      | inr u ↦ (u.settled ∙ settled, u.current ∙ now)
-      | inl o ↦ (let e : c.current m s ≡ a.current m s = elim o.one [ inl w ↦ w ∙ settled | inr w ↦ w ∙ now ] in (o.both ∙ e, e))
+      | inr u ↦ (u.durable ∙ durable, u.current ∙ now)
+      | inl o ↦ (let e : c.current m s ≡ a.current m s = elim o.one [ inl w ↦ w ∙ durable | inr w ↦ w ∙ now ] in (o.both ∙ e, e))
     ]
 
 -- from what happens to members and power
-stays_kept : (m : ℕ) (a b : Meaning) → Kept m a b → Stays a b
+stays_kept : (m : ℕ) (a b : Meaning) → OthersStay m a b → Stays a b
 stays_kept m a b f = record {
   off = f.off_stays;
   absent = λ k gone. elim (cases_eq k m) [
@@ -205,7 +205,7 @@ stays_kept m a b f = record {
 stays_same : (a b : Meaning) → b ≡ a → Stays a b
 stays_same a b e = record { off = λ off. ap (λ (x : Meaning). x.on) e ∙ off; absent = λ k gone. ap (λ (x : Meaning). x.present k) e ∙ gone }
 
-pub keeps : Keeps
+pub keeps : Remembers
 keeps = record {
   written_read = λ m s content old new a b c f g. (read_in m s old new b c g).gives ∙ (write_in m s content a b f).sets;
   read_again = λ m s old mid other new a b c f g. (read_in m s other new b c g).gives ∙ ((read_in m s old mid a b f).current m s ∙ sym (read_in m s old mid a b f).gives);
@@ -217,30 +217,30 @@ keeps = record {
   restart_absent = λ a b r f k gone. f.present k ∙ gone;
 }
 
-kept_cut : (m : ℕ) (a : Meaning) → Kept m a (cut a)
+kept_cut : (m : ℕ) (a : Meaning) → OthersStay m a (cut a)
 kept_cut m a = record { members = refl; sectors = refl; off_stays = λ e. refl; absent_stays = λ e. e; others = λ k ne. refl }
 
-settles_cut : (a : Meaning) → Settles a (cut a)
-settles_cut a = record { settled = λ k s. inl refl }
+persists_cut : (a : Meaning) → Persists a (cut a)
+persists_cut a = record { durable = λ k s. inl refl }
 
 -- one of the two contents that were picked from
 picked_one : (pick : ℕ → ℕ → Bool) (first second : ℕ → ℕ → List ℕ) (k s : ℕ) → (picked pick first second k s ≡ first k s) ⊎ (picked pick first second k s ≡ second k s)
 picked_one pick first second k s = elim (cases_Bool (pick k s)) [ inl taken ↦ inr (cond-true (pick k s) _ _ taken) | inr left ↦ inl (cond-false (pick k s) _ _ left) ]
 
--- what settles where the current contents become others
-settles_amid : (before after : ℕ → ℕ → Bool) (a b : Meaning) → ((k s : ℕ) → b.settled k s ≡ picked after (picked before a.settled a.current) b.current k s) → Settles a b
-settles_amid before after a b e = record {
-  settled = λ k s. elim (picked_one after (picked before a.settled a.current) b.current k s) [
+-- what persists where the current contents become others
+persists_amid : (before after : ℕ → ℕ → Bool) (a b : Meaning) → ((k s : ℕ) → b.durable k s ≡ picked after (picked before a.durable a.current) b.current k s) → Persists a b
+persists_amid before after a b e = record {
+  durable = λ k s. elim (picked_one after (picked before a.durable a.current) b.current k s) [
     | inr late ↦ inr (inr (e k s ∙ late))
-    | inl early ↦ elim (picked_one before a.settled a.current k s) [ inl same ↦ inl (e k s ∙ (early ∙ same)) | inr now ↦ inr (inl (e k s ∙ (early ∙ now))) ]
+    | inl early ↦ elim (picked_one before a.durable a.current k s) [ inl same ↦ inl (e k s ∙ (early ∙ same)) | inr now ↦ inr (inl (e k s ∙ (early ∙ now))) ]
   ];
 }
 
 -- the sector that is written, and the others
-written_here : (m s : ℕ) (content : List ℕ) (a : Meaning) → (written m s content a).current m s ≡ content
+written_here : (m s : ℕ) (content : List ℕ) (a : Meaning) → (with_current m s content a).current m s ≡ content
 written_here m s content a = cond-true (eqb m m) _ _ (eq-eqb m m refl) ∙ cond-true (eqb s s) _ _ (eq-eqb s s refl)
 
-written_there : (m t : ℕ) (content : List ℕ) (a : Meaning) (k s : ℕ) → ((k ≡ m) × (s ≡ t) → ⊥) → (written m t content a).current k s ≡ a.current k s
+written_there : (m t : ℕ) (content : List ℕ) (a : Meaning) (k s : ℕ) → ((k ≡ m) × (s ≡ t) → ⊥) → (with_current m t content a).current k s ≡ a.current k s
 written_there m t content a k s apart = elim (cases_eq k m) [
   | inr other ↦ cond-false (eqb k m) _ _ (ne_eqb k m other)
   | inl member ↦ elim (cases_eq s t) [
@@ -250,41 +250,41 @@ written_there m t content a k s apart = elim (cases_eq k m) [
 ]
 
 -- nothing happens to members and power
-kept_same : (m : ℕ) (a b : Meaning) → b.members ≡ a.members → b.sectors ≡ a.sectors → b.on ≡ a.on → b.present ≡ a.present → Kept m a b
+kept_same : (m : ℕ) (a b : Meaning) → b.members ≡ a.members → b.sectors ≡ a.sectors → b.on ≡ a.on → b.present ≡ a.present → OthersStay m a b
 kept_same m a b e f g h = record { members = e; sectors = f; off_stays = λ off. g ∙ off; absent_stays = λ gone. ap (λ p. p m) h ∙ gone; others = λ k ne. ap (λ p. p k) h }
 
 -- or the power goes as well
-kept_off : (m : ℕ) (a b : Meaning) → Kept m a b → Kept m a (cut b)
+kept_off : (m : ℕ) (a b : Meaning) → OthersStay m a b → OthersStay m a (cut b)
 kept_off m a b f = record { members = f.members; sectors = f.sectors; off_stays = λ e. refl; absent_stays = f.absent_stays; others = f.others }
 
 -- or a member is lost
-gone_here : (m : ℕ) (a : Meaning) → (lost m a).present m ≡ false
+gone_here : (m : ℕ) (a : Meaning) → (without_member m a).present m ≡ false
 gone_here m a = cond-true (eqb m m) _ _ (eq-eqb m m refl)
 
-kept_lost : (m : ℕ) (a : Meaning) → Kept m a (lost m a)
+kept_lost : (m : ℕ) (a : Meaning) → OthersStay m a (without_member m a)
 kept_lost m a = record { members = refl; sectors = refl; off_stays = λ e. e; absent_stays = λ e. gone_here m a; others = λ k ne. cond-false (eqb k m) _ _ (ne_eqb k m ne) }
 
-settles_lost : (m : ℕ) (a : Meaning) → Settles a (lost m a)
-settles_lost m a = record { settled = λ k s. inl refl }
+persists_lost : (m : ℕ) (a : Meaning) → Persists a (without_member m a)
+persists_lost m a = record { durable = λ k s. inl refl }
 
 -- a sector of a present member that is brought out, and one of an absent one
 out_here : (pick : ℕ → ℕ → Bool) (a : Meaning) (k s : ℕ) → a.present k ≡ true → OneContent a (brought_out pick a) k s
 out_here pick a k s there =
-    let settled : (brought_out pick a).settled k s ≡ picked pick a.settled a.current k s = cond-true (a.present k) _ _ there in
-    let current : (brought_out pick a).current k s ≡ picked pick a.settled a.current k s = cond-true (a.present k) _ _ there in
+    let durable : (brought_out pick a).durable k s ≡ picked pick a.durable a.current k s = cond-true (a.present k) _ _ there in
+    let current : (brought_out pick a).current k s ≡ picked pick a.durable a.current k s = cond-true (a.present k) _ _ there in
     record {
-      both = settled ∙ sym current;
-      one = elim (picked_one pick a.settled a.current k s) [ inl e ↦ inl (current ∙ e) | inr e ↦ inr (current ∙ e) ];
+      both = durable ∙ sym current;
+      one = elim (picked_one pick a.durable a.current k s) [ inl e ↦ inl (current ∙ e) | inr e ↦ inr (current ∙ e) ];
     }
 
 out_absent : (pick : ℕ → ℕ → Bool) (a : Meaning) (k s : ℕ) → a.present k ≡ false → Untouched a (brought_out pick a) k s
-out_absent pick a k s gone = record { settled = cond-false (a.present k) _ _ gone; current = cond-false (a.present k) _ _ gone }
+out_absent pick a k s gone = record { durable = cond-false (a.present k) _ _ gone; current = cond-false (a.present k) _ _ gone }
 
 -- a sector that is partly brought out is as it was, or as one that is brought out
 part_or : (some pick : ℕ → ℕ → Bool) (a : Meaning) (k s : ℕ) → Untouched a (partly_out some pick a) k s ⊎ Untouched (brought_out pick a) (partly_out some pick a) k s
 part_or some pick a k s = elim (cases_Bool (some k s)) [
-  | inl taken ↦ inr (record { settled = cond-true (some k s) _ _ taken; current = cond-true (some k s) _ _ taken })
-  | inr left ↦ inl (record { settled = cond-false (some k s) _ _ left; current = cond-false (some k s) _ _ left })
+  | inl taken ↦ inr (record { durable = cond-true (some k s) _ _ taken; current = cond-true (some k s) _ _ taken })
+  | inr left ↦ inl (record { durable = cond-false (some k s) _ _ left; current = cond-false (some k s) _ _ left })
 ]
 
 part_absent : (some pick : ℕ → ℕ → Bool) (a : Meaning) (k s : ℕ) → a.present k ≡ false → Untouched a (partly_out some pick a) k s
@@ -294,21 +294,21 @@ part_here : (some pick : ℕ → ℕ → Bool) (a : Meaning) (k s : ℕ) → a.p
 part_here some pick a k s there = elim (part_or some pick a k s) [
   | inl e ↦ inr e
   | inr e ↦ (let o = out_here pick a k s there in
-      inl (record { both = e.settled ∙ (o.both ∙ sym e.current); one = elim o.one [ inl w ↦ inl (e.current ∙ w) | inr w ↦ inr (e.current ∙ w) ] }))
+      inl (record { both = e.durable ∙ (o.both ∙ sym e.current); one = elim o.one [ inl w ↦ inl (e.current ∙ w) | inr w ↦ inr (e.current ∙ w) ] }))
 ]
 
 pub allows : Allows
 allows = record {
   read = λ m s old a q. record {
-    inside = λ h. record { kept = kept_cut m a; settles = settles_cut a; current = λ k i. refl; tells = refl; gives = refl };
+    inside = λ h. record { kept = kept_cut m a; persists = persists_cut a; current = λ k i. refl; tells = refl; gives = refl };
     outside = λ no. absurd (no q);
   };
   write = λ m s content a q. record {
-    inside = λ h. record { kept = kept_cut m a; settles = settles_cut a; elsewhere = λ k i apart. refl; tells = refl; sets = inl refl };
+    inside = λ h. record { kept = kept_cut m a; persists = persists_cut a; elsewhere = λ k i apart. refl; tells = refl; sets = inl refl };
     outside = λ no. absurd (no q);
   };
   flush = λ m a q. record {
-    inside = λ h. record { kept = kept_cut m a; settles = settles_cut a; current = λ k i. refl; tells = refl; flushes = tt };
+    inside = λ h. record { kept = kept_cut m a; persists = persists_cut a; current = λ k i. refl; tells = refl; flushes = tt };
     outside = λ no. absurd (no q);
   };
   restart = λ a. record {
@@ -316,17 +316,17 @@ allows = record {
     sectors = refl;
     answer = refl;
     present = λ k. refl;
-    absent = λ k s gone. record { settled = refl; current = refl };
+    absent = λ k s gone. record { durable = refl; current = refl };
     on = λ on. absurd (both_ways false refl on);
-    off = λ off k s there. inr (record { settled = refl; current = refl });
+    off = λ off k s there. inr (record { durable = refl; current = refl });
   };
   read_refused = λ m s old a no. record { inside = λ q. absurd (no q); outside = λ n. (refl, refl, refl) };
   write_refused = λ m s content a no. record { inside = λ q. absurd (no q); outside = λ n. (refl, refl) };
   flush_refused = λ m a no. record { inside = λ q. absurd (no q); outside = λ n. (refl, refl) };
   read_done = λ pick m s old a q on there. record {
     inside = λ h. record {
-      kept = kept_same m a (some_settled pick a) refl refl refl refl;
-      settles = settles_amid pick (λ k i. false) a (some_settled pick a) (λ k i. refl);
+      kept = kept_same m a (some_durable pick a) refl refl refl refl;
+      persists = persists_amid pick (λ k i. false) a (some_durable pick a) (λ k i. refl);
       current = λ k i. refl;
       tells = (on, there);
       gives = refl;
@@ -335,8 +335,8 @@ allows = record {
   };
   write_done = λ before after m s content a q on there. record {
     inside = λ h. record {
-      kept = kept_same m a (written_amid before after m s content a) refl refl refl refl;
-      settles = settles_amid before after a (written_amid before after m s content a) (λ k i. refl);
+      kept = kept_same m a (with_current_amid before after m s content a) refl refl refl refl;
+      persists = persists_amid before after a (with_current_amid before after m s content a) (λ k i. refl);
       elsewhere = written_there m s content a;
       tells = (on, there);
       sets = written_here m s content a;
@@ -345,8 +345,8 @@ allows = record {
   };
   read_cut = λ pick m s old a q. record {
     inside = λ h. record {
-      kept = kept_off m a (some_settled pick a) (kept_same m a (some_settled pick a) refl refl refl refl);
-      settles = settles_amid pick (λ k i. false) a (cut (some_settled pick a)) (λ k i. refl);
+      kept = kept_off m a (some_durable pick a) (kept_same m a (some_durable pick a) refl refl refl refl);
+      persists = persists_amid pick (λ k i. false) a (cut (some_durable pick a)) (λ k i. refl);
       current = λ k i. refl;
       tells = refl;
       gives = refl;
@@ -355,8 +355,8 @@ allows = record {
   };
   write_cut = λ before after m s content a q. record {
     inside = λ h. record {
-      kept = kept_off m a (written_amid before after m s content a) (kept_same m a (written_amid before after m s content a) refl refl refl refl);
-      settles = settles_amid before after a (cut (written_amid before after m s content a)) (λ k i. refl);
+      kept = kept_off m a (with_current_amid before after m s content a) (kept_same m a (with_current_amid before after m s content a) refl refl refl refl);
+      persists = persists_amid before after a (cut (with_current_amid before after m s content a)) (λ k i. refl);
       elsewhere = written_there m s content a;
       tells = refl;
       sets = inr (written_here m s content a);
@@ -365,8 +365,8 @@ allows = record {
   };
   flush_done = λ pick m a q on there. record {
     inside = λ h. record {
-      kept = kept_same m a (member_settled m (some_settled pick a)) refl refl refl refl;
-      settles = settles_amid pick (λ k i. eqb k m) a (member_settled m (some_settled pick a)) (λ k i. refl);
+      kept = kept_same m a (member_durable m (some_durable pick a)) refl refl refl refl;
+      persists = persists_amid pick (λ k i. eqb k m) a (member_durable m (some_durable pick a)) (λ k i. refl);
       current = λ k i. refl;
       tells = (on, there);
       flushes = λ i. cond-true (eqb m m) _ _ (eq-eqb m m refl);
@@ -375,8 +375,8 @@ allows = record {
   };
   flush_cut = λ pick m a q. record {
     inside = λ h. record {
-      kept = kept_off m a (some_settled pick a) (kept_same m a (some_settled pick a) refl refl refl refl);
-      settles = settles_amid pick (λ k i. false) a (cut (some_settled pick a)) (λ k i. refl);
+      kept = kept_off m a (some_durable pick a) (kept_same m a (some_durable pick a) refl refl refl refl);
+      persists = persists_amid pick (λ k i. false) a (cut (some_durable pick a)) (λ k i. refl);
       current = λ k i. refl;
       tells = refl;
       flushes = tt;
@@ -384,15 +384,15 @@ allows = record {
     outside = λ no. absurd (no q);
   };
   read_absent = λ m s old a q on. record {
-    inside = λ h. record { kept = kept_lost m a; settles = settles_lost m a; current = λ k i. refl; tells = (on, gone_here m a); gives = refl };
+    inside = λ h. record { kept = kept_lost m a; persists = persists_lost m a; current = λ k i. refl; tells = (on, gone_here m a); gives = refl };
     outside = λ no. absurd (no q);
   };
   write_absent = λ m s content a q on. record {
-    inside = λ h. record { kept = kept_lost m a; settles = settles_lost m a; elsewhere = λ k i apart. refl; tells = (on, gone_here m a); sets = refl };
+    inside = λ h. record { kept = kept_lost m a; persists = persists_lost m a; elsewhere = λ k i apart. refl; tells = (on, gone_here m a); sets = refl };
     outside = λ no. absurd (no q);
   };
   flush_absent = λ m a q on. record {
-    inside = λ h. record { kept = kept_lost m a; settles = settles_lost m a; current = λ k i. refl; tells = (on, gone_here m a); flushes = tt };
+    inside = λ h. record { kept = kept_lost m a; persists = persists_lost m a; current = λ k i. refl; tells = (on, gone_here m a); flushes = tt };
     outside = λ no. absurd (no q);
   };
   restart_on = λ pick a. record {

@@ -1,8 +1,8 @@
 -- The operations of the trial shelf, by its controls and its images.
 use Rattle.std.proofs.Common.{◌≡◌, ℕ, zero, suc, ◌+◌, ◌*◌, ◌<◌, ◌≤◌, Bool, true, false, cond, ltb, ◌⊎◌, List, [], ◌∷◌, length, get_or, take, set, sym, refl, ap, ◌∙◌, subst, inl, inr, zero-add, arith, get_or-set_other, Ok, Err}
 use Rattle.std.proofs.lemmas.Bool.{cases_Bool, cases_eq, cases_lt, cond-true, cond-false, lt-ltb, le-ltb, both_ways}
-use Rattle.shelf.specs.Meaning.{FlushIn, Flushed, Flushes, Kept, Meaning, Sets, Tells, WriteIn, Writes}
-use Rattle.shelf.specs.Runs.{InRange, PulledAlone, image_of, sector_at, sector_put}
+use Rattle.shelf.specs.Meaning.{FlushIn, Flushed, Flushes, OthersStay, Meaning, Sets, AnswerTells, WriteIn, Writes}
+use Rattle.shelf.specs.Runs.{InRange, Pulled, image_of, sector_at, sector_put}
 use Rattle.shelf.specs.Trials.{FlushedRun, Trial, TrialFlushes, TrialWrites, answer_after, answer_of, means, struck, trial_meaning}
 use Rattle.shelf.specs.Answers.{Answer, done}
 use Rattle.shelf.specs.declared.Failure.TheVariants.{Absent, Off, OutOfRange}
@@ -10,14 +10,14 @@ use Rattle.shelf.specs.declared.controls.Controls.{Controls}
 use Rattle.shelf.proofs.Cells.{cell_inside, cell_one, image_in, image_other, image_put, image_same, member_end}
 
 -- what an answer tells
-pub tells_after : (m z : ℕ) (run : List ℕ) (d : Controls) (k : ℕ) (r : Answer) → k < m → r ≡ answer_after d k → Tells r k (trial_meaning m z run d)
+pub tells_after : (m z : ℕ) (run : List ℕ) (d : Controls) (k : ℕ) (r : Answer) → k < m → r ≡ answer_after d k → AnswerTells r k (trial_meaning m z run d)
 tells_after m z run d k r lt e =
     let here : (trial_meaning m z run d).present k ≡ get_or d.present k false = cond-true (ltb k m) _ _ (lt-ltb k m lt) in
     elim (cases_Bool d.on) [
-      | inr off ↦ subst (λ a. Tells a k (trial_meaning m z run d)) (sym (e ∙ cond-false d.on _ _ off)) off
+      | inr off ↦ subst (λ a. AnswerTells a k (trial_meaning m z run d)) (sym (e ∙ cond-false d.on _ _ off)) off
       | inl on ↦ elim (cases_Bool (get_or d.present k false)) [
-        | inl there ↦ subst (λ a. Tells a k (trial_meaning m z run d)) (sym (e ∙ (cond-true d.on _ _ on ∙ cond-true (get_or d.present k false) _ _ there))) (on, here ∙ there)
-        | inr gone ↦ subst (λ a. Tells a k (trial_meaning m z run d)) (sym (e ∙ (cond-true d.on _ _ on ∙ cond-false (get_or d.present k false) _ _ gone))) (on, here ∙ gone)
+        | inl there ↦ subst (λ a. AnswerTells a k (trial_meaning m z run d)) (sym (e ∙ (cond-true d.on _ _ on ∙ cond-true (get_or d.present k false) _ _ there))) (on, here ∙ there)
+        | inr gone ↦ subst (λ a. AnswerTells a k (trial_meaning m z run d)) (sym (e ∙ (cond-true d.on _ _ on ∙ cond-false (get_or d.present k false) _ _ gone))) (on, here ∙ gone)
       ]
     ]
 
@@ -63,7 +63,7 @@ present_as : (m : ℕ) (c d : Controls) (j : ℕ) → get_or d.present j false �
 present_as m c d j e = ap (λ b. cond (ltb j m) b false) e
 
 pub kept_after : (m z : ℕ) (run new : List ℕ) (c d : Controls) (k : ℕ) → k < m → d ≡ struck c k
-    → Kept k (trial_meaning m z run c) (trial_meaning m z new d)
+    → OthersStay k (trial_meaning m z run c) (trial_meaning m z new d)
 kept_after m z run new c d k lt e =
     let same : (j : ℕ) → get_or d.present j false ≡ get_or (struck c k).present j false = λ j. ap (λ (x : Controls). get_or x.present j false) e in
     record {
@@ -84,8 +84,8 @@ reached m z run c k s bytes r whole range tell there =
     let fit : at * 512 + 512 ≤ length run = omega (arith, in_image) in
     record {
       kept = kept_after m z run (sector_put run at bytes) c (struck c k) k range.member_below refl;
-      settles = record {
-        settled = λ j t. inl (image_other m z run 0 at bytes j t (omega arith) fit range.long
+      persists = record {
+        durable = λ j t. inl (image_other m z run 0 at bytes j t (omega arith) fit range.long
             (λ a b same. omega (arith, cell_inside m z j t a b, same)));
       };
       elsewhere = λ j t apart. image_other m z run (m * z) at bytes j t (omega arith) fit range.long
@@ -103,7 +103,7 @@ missed : (m z : ℕ) (run : List ℕ) (c : Controls) (k s : ℕ) (bytes : List �
     → (c.on ≡ false) ⊎ (get_or (struck c k).present k false ≡ false) → WriteIn k s bytes (trial_meaning m z run c) (trial_meaning m z run (struck c k)) r
 missed m z run c k s bytes r lt tell way = record {
   kept = kept_after m z run run c (struck c k) k lt refl;
-  settles = record { settled = λ j t. inl refl };
+  persists = record { durable = λ j t. inl refl };
   elsewhere = λ j t apart. refl;
   tells = tells_after m z run (struck c k) k r lt tell;
   sets = sets_same r bytes _ (λ e. elim way [
@@ -156,33 +156,33 @@ trial_writes k s bytes a b r whole h = record {
     In : InRange a.members a.sectors k s (length bytes) → List ℕ → Type 0
     In q new = WriteIn k s bytes (means a) (trial_meaning a.members a.sectors new (struck a.controls k)) r
 
--- a flush that settled the member
-settled_member : (m z : ℕ) (run : List ℕ) (c d : Controls) (k : ℕ) (new : List ℕ) → k < m → d ≡ struck c k → done ≡ answer_after d k
-    → PulledAlone (m * z) (k * z) (k * z + z) run new → FlushIn k (trial_meaning m z run c) (trial_meaning m z new d) done
-settled_member m z run c d k new lt e tell p =
+-- a flush that durable the member
+durable_member : (m z : ℕ) (run : List ℕ) (c d : Controls) (k : ℕ) (new : List ℕ) → k < m → d ≡ struck c k → done ≡ answer_after d k
+    → Pulled (m * z) (k * z) (k * z + z) run new → FlushIn k (trial_meaning m z run c) (trial_meaning m z new d) done
+durable_member m z run c d k new lt e tell p =
     let current : (j t : ℕ) → image_of m z new (m * z) j t ≡ image_of m z run (m * z) j t = λ j t. image_same m z run new (m * z) j t (λ a b.
     ap (take 512) (p.rest ((m * z + (j * z + t)) * 512) (omega (arith, member_end z k m lt)))) in
     record {
       kept = kept_after m z run new c d k lt e;
-      settles = record { settled = λ j t. settled_or m z run new k j t p };
+      persists = record { durable = λ j t. durable_or m z run new k j t p };
       current = current;
       tells = tells_after m z new d k done lt tell;
-      flushes = λ t. settled_now m z run new k t lt p ∙ sym (current k t);
+      flushes = λ t. durable_now m z run new k t lt p ∙ sym (current k t);
     }
   where
-    settled_now : (m z : ℕ) (run new : List ℕ) (k t : ℕ) → k < m → PulledAlone (m * z) (k * z) (k * z + z) run new
+    durable_now : (m z : ℕ) (run new : List ℕ) (k t : ℕ) → k < m → Pulled (m * z) (k * z) (k * z + z) run new
         → image_of m z new 0 k t ≡ image_of m z run (m * z) k t
-    settled_now m z run new k t lt p = elim (cases_lt t z) [
+    durable_now m z run new k t lt p = elim (cases_lt t z) [
       | inr le ↦ cond-true (ltb k m) _ _ (lt-ltb k m lt) ∙ (cond-false (ltb t z) _ _ (le-ltb t z le) ∙ sym (cond-true (ltb k m) _ _ (lt-ltb k m lt) ∙ cond-false (ltb t z) (sector_at run (m * z + (k * z + t))) _ (le-ltb t z le)))
       | inl below ↦ image_in m z new 0 k t lt below ∙ (ap (sector_at new) (zero-add (k * z + t)) ∙ (p.pulled (k * z + t) (omega arith) (omega arith) ∙ sym (image_in m z run (m * z) k t lt below)))
     ]
 
-    settled_or : (m z : ℕ) (run new : List ℕ) (k j t : ℕ) → PulledAlone (m * z) (k * z) (k * z + z) run new
+    durable_or : (m z : ℕ) (run new : List ℕ) (k j t : ℕ) → Pulled (m * z) (k * z) (k * z + z) run new
         → (image_of m z new 0 j t ≡ image_of m z run 0 j t) ⊎ ((image_of m z new 0 j t ≡ image_of m z run (m * z) j t) ⊎ (image_of m z new 0 j t ≡ image_of m z new (m * z) j t))
-    settled_or m z run new k j t p = elim (cases_lt j m) [
+    durable_or m z run new k j t p = elim (cases_lt j m) [
       | inr le ↦ inl (cond-false (ltb j m) _ _ (le-ltb j m le) ∙ sym (cond-false (ltb j m) _ _ (le-ltb j m le)))
       | inl lt ↦ elim (cases_eq j k) [
-        | inl same ↦ inr (inl (settled_now m z run new j t lt (subst (λ x. PulledAlone (m * z) (x * z) (x * z + z) run new) (sym same) p)))
+        | inl same ↦ inr (inl (durable_now m z run new j t lt (subst (λ x. Pulled (m * z) (x * z) (x * z + z) run new) (sym same) p)))
         | inr ne ↦ inl (image_same m z run new 0 j t (λ a b. kept_cell (0 + (j * z + t)) (apart j t b ne)))
       ]
     ]
@@ -197,11 +197,11 @@ settled_member m z run c d k new lt e tell p =
         kept_cell q way = elim way [ inl a ↦ p.below q a | inr a ↦ ap (take 512) (p.rest (q * 512) (omega arith)) ]
 
 -- and one that did not
-unsettled : (m z : ℕ) (run : List ℕ) (c : Controls) (k : ℕ) (r : Answer) → k < m → r ≡ answer_after (struck c k) k → (r ≡ done → ⊥)
+undurable : (m z : ℕ) (run : List ℕ) (c : Controls) (k : ℕ) (r : Answer) → k < m → r ≡ answer_after (struck c k) k → (r ≡ done → ⊥)
     → FlushIn k (trial_meaning m z run c) (trial_meaning m z run (struck c k)) r
-unsettled m z run c k r lt tell ne = record {
+undurable m z run c k r lt tell ne = record {
   kept = kept_after m z run run c (struck c k) k lt refl;
-  settles = record { settled = λ j t. inl refl };
+  persists = record { durable = λ j t. inl refl };
   current = λ j t. refl;
   tells = tells_after m z run (struck c k) k r lt tell;
   flushes = nothing r _ ne;
@@ -218,9 +218,9 @@ trial_flushes k a b r h = record {
 }
   where
     by : (r : Answer) (new : List ℕ) → k < a.members → r ≡ answer_of a k → FlushedRun r a k new → FlushIn k (means a) (trial_meaning a.members a.sectors new (struck a.controls k)) r
-    by (Ok x) new lt tell p = settled_member a.members a.sectors a.run a.controls (struck a.controls k) k new lt refl tell p
-    by (Err u) new lt tell e = rw e (unsettled a.members a.sectors a.run a.controls k (Err u) lt tell (λ d. let z : ◌≡◌ {A = ℕ} 0 1 = cc in omega arith))
+    by (Ok x) new lt tell p = durable_member a.members a.sectors a.run a.controls (struck a.controls k) k new lt refl tell p
+    by (Err u) new lt tell e = rw e (undurable a.members a.sectors a.run a.controls k (Err u) lt tell (λ d. let z : ◌≡◌ {A = ℕ} 0 1 = cc in omega arith))
 
 -- the same, by other names of the same
-pub pulled_as : (image first end : ℕ) (old was new now : List ℕ) → old ≡ was → now ≡ new → PulledAlone image first end old new → PulledAlone image first end was now
-pulled_as image first end old was new now e f p = subst (λ l. PulledAlone image first end l now) e (subst (λ l. PulledAlone image first end old l) (sym f) p)
+pub pulled_as : (image first end : ℕ) (old was new now : List ℕ) → old ≡ was → now ≡ new → Pulled image first end old new → Pulled image first end was now
+pulled_as image first end old was new now e f p = subst (λ l. Pulled image first end l now) e (subst (λ l. Pulled image first end old l) (sym f) p)

@@ -36,11 +36,11 @@ pub record PlainRestarts (a b : Plain) (r : Bool) : Type 0 where
   pub same : b ≡ a
   pub answer : r ≡ true
 
--- the power stays on, no member is lost, and every sector is settled
+-- the power stays on, no member is lost, and every sector is durable
 pub record Steady (a b : Meaning) : Type 0 where
   pub on : b.on ≡ true
   pub present : (k : ℕ) → b.present k ≡ a.present k
-  pub settled : (k s : ℕ) → b.settled k s ≡ b.current k s
+  pub durable : (k s : ℕ) → b.durable k s ≡ b.current k s
 
 -- a new shelf: as asked for where the run fits, else 2 members without sectors
 pub record PlainMade (m z : ℕ) (run : List ℕ) (b : Plain) : Type 0 where

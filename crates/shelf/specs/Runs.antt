@@ -1,10 +1,12 @@
 -- Sectors in a run of bytes.
 use Rattle.std.specs.Prelude.{◌≡◌, ℕ, ◌+◌, ◌-◌, ◌*◌, ◌/◌, ◌%◌, ◌^◌, ◌<◌, ◌≤◌, Bool, cond, List, [], length, replicate, take, drop, Some, None, Option, Ok, Err, Result, ◌==◌, bit_and, nat_lt}
+use Rattle.sector.specs.declared.limits.TheConstants.{FEWEST_MEMBERS, MOST_MEMBERS}
 use Rattle.answer.specs.declared.Refusal.{Refusal}
 use Rattle.answer.specs.declared.Refusal.TheVariants.{OutOfLimits}
 use Rattle.shelf.specs.declared.Failure.{Failure}
 use Rattle.shelf.specs.declared.Failure.TheVariants.{OutOfRange}
 use Rattle.std.proofs.Math.Seq.{paste}
+use Rattle.shelf.specs.declared.TheConstants.{MOST_SECTORS}
 
 -- sector `at` of a run
 abbrev pub sector_at : List ℕ → ℕ → List ℕ
@@ -20,10 +22,10 @@ image_of m z run base k s = cond (nat_lt k m) (cond (nat_lt s z) (sector_at run 
 
 -- members and sectors within the limits
 pub record Within (members sectors : ℕ) : Type 0 where
-  pub least : 2 ≤ members
-  pub few : members ≤ 16
+  pub least : FEWEST_MEMBERS ≤ members
+  pub few : members ≤ MOST_MEMBERS
   pub some : 1 ≤ sectors
-  pub short : sectors ≤ 33554432
+  pub short : sectors ≤ MOST_SECTORS
 
 -- the same, and a run of just so many images
 pub record RunOf (members sectors images bytes : ℕ) : Type 0 where
@@ -66,11 +68,11 @@ InLastImage m z n run k s (Some content) = (k < m) × (s < z) × (content ≡ im
 InLastImage m z n run k s None = (k < m) × (s < z) → ⊥
 
 -- a sector q of a run
-abbrev pub Has : List ℕ → ℕ → Type 0
-Has run q = q * 512 + 512 ≤ length run
+abbrev pub RunHasSector : List ℕ → ℕ → Type 0
+RunHasSector run q = q * 512 + 512 ≤ length run
 
 -- after the sectors from `first` up to `end` were copied there from `image` sectors further on, and no other byte was changed
-pub record PulledAlone (image first end : ℕ) (old new : List ℕ) : Type 0 where
+pub record Pulled (image first end : ℕ) (old new : List ℕ) : Type 0 where
   pub long : length new ≡ length old
   pub pulled : (q : ℕ) → first ≤ q → q < end → sector_at new q ≡ sector_at old (image + q)
   pub below : (q : ℕ) → q < first → sector_at new q ≡ sector_at old q
@@ -85,7 +87,7 @@ abbrev pub chosen_of : (choice image : ℕ) → List ℕ → ℕ → List ℕ
 chosen_of choice image run q = cond (chosen_bit choice q) (sector_at run (image + q)) (sector_at run q)
 
 -- after each of the sectors from `first` up to `end` was made one with its other, and no other byte was changed
-pub record ChosenAlone (choice image first end : ℕ) (old new : List ℕ) : Type 0 where
+pub record Chosen (choice image first end : ℕ) (old new : List ℕ) : Type 0 where
   pub long : length new ≡ length old
   pub here : (q : ℕ) → first ≤ q → q < end → sector_at new q ≡ chosen_of choice image old q
   pub there : (q : ℕ) → first ≤ q → q < end → sector_at new (image + q) ≡ chosen_of choice image old q

@@ -2,27 +2,30 @@
 ghost use Rattle.std.specs.Prelude.{◌≡◌, ◌+◌, ◌*◌, ◌<◌, ◌≤◌, MatchOption, MatchResult};
 ghost use Rattle.answer.specs.declared.Refusal.TheVariants.{OutOfLimits};
 ghost use Rattle.shelf.specs.Runs.{Cell, RunOf, Within};
+ghost use Rattle.sector.specs.declared.limits.TheConstants.{MOST_MEMBERS};
+ghost use Rattle.shelf.specs.declared.TheConstants.{MOST_SECTORS};
 
-use crate::{Failure, LEAST_MEMBERS, MOST_MEMBERS, MOST_SECTORS};
+use crate::{Failure, MOST_SECTORS};
 use answer::Refusal;
 use sector::SECTOR;
+use sector::limits::{FEWEST_MEMBERS, MOST_MEMBERS};
 
 // The members of a shelf and the sectors of each, within the limits. In an image the sectors of member 0 come first, then those of member 1, and so on.
 #[derive(Clone, Copy)]
 pub(crate) struct Extent {
     pub(crate) members: u64,
     pub(crate) sectors: u64,
-    ghost few: { members ≤ 16 },
-    ghost short: { sectors ≤ 33554432 },
+    ghost few: { members ≤ MOST_MEMBERS },
+    ghost short: { sectors ≤ MOST_SECTORS },
 }
 
 impl Extent {
-    // The extent of so many members with so many sectors, if the limits allow it. A test: as `then` it is refused unless the closure requires in
-    // a clause of its own what the test says, which is no plainer.
+    // The extent of so many members with so many sectors, if the limits allow it. An `if`, since a closure would have to say
+    // the test again in a clause of its own.
     pub(crate) fn within(members: u64, sectors: u64) -> Option<Extent>
         ensures { MatchOption result (Within members sectors → ⊥) (λ e. Within members sectors × (e.members ≡ members) × (e.sectors ≡ sectors)) }
     {
-        if (LEAST_MEMBERS..=MOST_MEMBERS).contains(&members)
+        if (FEWEST_MEMBERS..=MOST_MEMBERS).contains(&members)
             && (1..=MOST_SECTORS).contains(&sectors)
         {
             Some(Extent { members, sectors })

@@ -1,7 +1,7 @@
 // Images of a shelf's sectors in one run of bytes.
 ghost use Rattle.std.specs.Prelude.{◌≡◌, ◌+◌, ◌*◌, ◌<◌, ◌≤◌, length, vec_len, IfOk};
-ghost use Rattle.shelf.specs.Runs.{BlankOf, Cell, FitsRun, InLastImage, MadeOf, PulledAlone, sector_at, sector_put};
-ghost use Rattle.shelf.specs.Trials.{BroughtAlone, BroughtOneAlone};
+ghost use Rattle.shelf.specs.Runs.{BlankOf, Cell, FitsRun, InLastImage, MadeOf, Pulled, sector_at, sector_put};
+ghost use Rattle.shelf.specs.Trials.{Brought, BroughtOne};
 
 use crate::controls::Controls;
 use crate::extent::Extent;
@@ -103,13 +103,13 @@ impl<const COUNT: u64> Images<COUNT> {
     }
 }
 
-// The settled image comes first, then the current one.
+// The durable image comes first, then the current one.
 impl Images<2> {
-    // Settles what is current in a member's sectors.
-    pub(crate) fn settle(&mut self, member: u64)
+    // Persists what is current in a member's sectors.
+    pub(crate) fn persist(&mut self, member: u64)
         requires { member < self.old.extent.members }
         ensures extent { self.new.extent ≡ self.old.extent }
-        ensures content { let a = self.old in PulledAlone (a.extent.members * a.extent.sectors) (member * a.extent.sectors) (member * a.extent.sectors + a.extent.sectors) a.bytes.items self.new.bytes.items }
+        ensures content { let a = self.old in Pulled (a.extent.members * a.extent.sectors) (member * a.extent.sectors) (member * a.extent.sectors + a.extent.sectors) a.bytes.items self.new.bytes.items }
     {
         run::pull(&mut self.bytes, self.extent.column(member));
     }
@@ -117,7 +117,7 @@ impl Images<2> {
     // Makes one content of the two of each sector of the present members.
     pub(crate) fn bring_out(&mut self, controls: &Controls)
         ensures extent { self.new.extent ≡ self.old.extent }
-        ensures content { let a = self.old in BroughtAlone a.extent.members a.extent.sectors controls.now a.extent.members a.bytes.items self.new.bytes.items }
+        ensures content { let a = self.old in Brought a.extent.members a.extent.sectors controls.now a.extent.members a.bytes.items self.new.bytes.items }
     {
         for member in 0..self.extent.members {
             self.bring_out_member(controls, member);
@@ -128,7 +128,7 @@ impl Images<2> {
     fn bring_out_member(&mut self, controls: &Controls, member: u64)
         requires { member < self.old.extent.members }
         ensures extent { self.new.extent ≡ self.old.extent }
-        ensures content { let a = self.old in BroughtOneAlone a.extent.members a.extent.sectors controls.now member a.bytes.items self.new.bytes.items }
+        ensures content { let a = self.old in BroughtOne a.extent.members a.extent.sectors controls.now member a.bytes.items self.new.bytes.items }
     {
         if controls.present[member as usize] {
             run::choose(&mut self.bytes, controls.choice, self.extent.column(member));

@@ -3,8 +3,9 @@
 
 ghost use Rattle.std.specs.Prelude.{◌≡◌, ℕ, ◌<◌, true};
 ghost use Rattle.shelf.specs.Meaning.{Flushed, Meaning, Reads, Restarts, Writes};
-ghost use Rattle.shelf.specs.Relation.{Allows, Keeps, Repeats};
+ghost use Rattle.shelf.specs.Relation.{Allows, Remembers, Repeats};
 
+pub mod controlled;
 mod controls;
 mod extent;
 pub mod image;
@@ -12,10 +13,6 @@ mod images;
 pub mod plain;
 mod run;
 pub mod trial;
-
-pub const LEAST_MEMBERS: u64 = 2;
-
-pub const MOST_MEMBERS: u64 = 16;
 
 pub const MOST_SECTORS: u64 = 33_554_432;
 
@@ -33,9 +30,9 @@ pub enum Failure {
 // An operation that is done leaves the shelf on and has found the member there.
 pub type Answer = Result<(), Failure>;
 
-// A shelf. What is written is current at once and settled by a flush at the latest; a restart brings out one of the two for each sector.
+// A shelf. What is written is current at once and durable by a flush at the latest; a restart brings out one of the two for each sector.
 pub trait Shelf {
-    // on or off, which members are there, and what is settled and what is current in each sector
+    // on or off, which members are there, and what is durable and what is current in each sector
     ghost meaning: { Self → Meaning };
 
     // How many members it has, present or absent.
@@ -61,7 +58,7 @@ pub trait Shelf {
     fn write(&mut self, member: u64, sector: u64, buffer: &[u8]) -> Answer
         ensures { Writes member sector buffer.now (meaning self.old) (meaning self.new) result };
 
-    // A done flush settles what is current on the member.
+    // A done flush persists what is current on the member.
     fn flush(&mut self, member: u64) -> Answer
         ensures { Flushed member (meaning self.old) (meaning self.new) result };
 
@@ -73,9 +70,9 @@ pub trait Shelf {
 }
 
 // The rules of a shelf are closed under repetition, strong enough that nothing done is forgotten, and weak enough that an operation may be done, be cut or
-// find its member gone, that any sectors may settle meanwhile, and that a restart may bring out either content of each sector.
+// find its member gone, that any sectors may become durable meanwhile, and that a restart may bring out either content of each sector.
 pub fn relation_stands()
     ensures repeated { Repeats }
-    ensures kept { Keeps }
+    ensures kept { Remembers }
     ensures allowed { Allows }
 {}

@@ -1,4 +1,4 @@
-// The plain shelf: a run of bytes that settles each write, stays on and loses no member.
+// The plain shelf: a run of bytes that persists each write, stays on and loses no member.
 ghost use Rattle.std.specs.Prelude.{◌≡◌, ◌*◌, ◌≤◌, length, IfOk};
 ghost use Rattle.shelf.specs.Meaning.{Flushed, Reads, Restarts, Writes};
 ghost use Rattle.shelf.specs.Plains.{PlainFlushes, PlainMade, PlainReads, PlainRestarts, PlainWrites, Steady, plain_means};
@@ -7,7 +7,7 @@ ghost use Rattle.std.proofs.Common.{rules, arith};
 
 use crate::image::Image;
 use crate::images::Images;
-use crate::{Answer, Failure, Shelf};
+use crate::{Answer, Failure, MOST_SECTORS, Shelf};
 use answer::Refusal;
 use sector::Sector;
 use std::alloc::{AllocError, Global};
@@ -78,7 +78,7 @@ impl Shelf for PlainShelf {
 
     fn sectors(&self) -> u64
         ensures sectors { result ≡ self.now.sectors }
-        ensures short { result ≤ 33554432 }
+        ensures short { result ≤ MOST_SECTORS }
     {
         self.images.extent.sectors
     }

@@ -1,13 +1,13 @@
 // Sectors in a run of bytes. That a sector lies in the run is asked of each caller: a run that is written is a slice, which has no field to carry it.
 ghost use Rattle.std.specs.Prelude.{◌≡◌, ◌+◌, ◌*◌, ◌≤◌, length, if◌then◌else◌};
-ghost use Rattle.shelf.specs.Runs.{ChosenAlone, Has, PulledAlone, chosen_bit, sector_at, sector_put};
+ghost use Rattle.shelf.specs.Runs.{Chosen, RunHasSector, Pulled, chosen_bit, sector_at, sector_put};
 
 use crate::extent::Column;
 use sector::{SECTOR, Sector};
 
 // Sector `at` of the run.
 pub(crate) fn sector_at(run: &[u8], at: usize) -> &Sector
-    requires { Has run.now at }
+    requires { RunHasSector run.now at }
     ensures { result.now ≡ sector_at run.now at }
 {
     run[at * SECTOR..].first_chunk().unwrap()
@@ -15,7 +15,7 @@ pub(crate) fn sector_at(run: &[u8], at: usize) -> &Sector
 
 // Copies a content into sector `at` of the run.
 pub(crate) fn store(run: &mut [u8], at: usize, content: &Sector)
-    requires { Has run.old at }
+    requires { RunHasSector run.old at }
     ensures { run.new ≡ sector_put run.old at content.now }
 {
     let from = at * SECTOR;
@@ -24,8 +24,8 @@ pub(crate) fn store(run: &mut [u8], at: usize, content: &Sector)
 
 // Copies one sector of the run over another.
 fn copy(run: &mut [u8], from: usize, to: usize)
-    requires from { Has run.old from }
-    requires to { Has run.old to }
+    requires from { RunHasSector run.old from }
+    requires to { RunHasSector run.old to }
     ensures { run.new ≡ sector_put run.old to (sector_at run.old from) }
 {
     let content = *sector_at(run, from);
@@ -35,7 +35,7 @@ fn copy(run: &mut [u8], from: usize, to: usize)
 // Copies the sectors of a column from the second image into the first.
 pub(crate) fn pull(run: &mut [u8], column: Column)
     requires { (column.image + column.end) * 512 ≤ length run.old }
-    ensures { PulledAlone column.image column.start column.end run.old run.new }
+    ensures { Pulled column.image column.start column.end run.old run.new }
 {
     for at in column.start..column.end {
         copy(run, column.image + at, at);
@@ -51,8 +51,8 @@ fn takes_current(choice: u32, at: usize) -> bool
 
 // Makes a sector and the one `image` sectors further on one, by the choice word.
 fn choose_one(run: &mut [u8], choice: u32, image: usize, at: usize)
-    requires here { Has run.old at }
-    requires there { Has run.old (image + at) }
+    requires here { RunHasSector run.old at }
+    requires there { RunHasSector run.old (image + at) }
     ensures { run.new ≡ (if chosen_bit choice at then sector_put run.old at (sector_at run.old (image + at)) else sector_put run.old (image + at) (sector_at run.old at)) }
 {
     if takes_current(choice, at) {
@@ -65,7 +65,7 @@ fn choose_one(run: &mut [u8], choice: u32, image: usize, at: usize)
 // Makes each of the sectors of a column one with the one in the other image.
 pub(crate) fn choose(run: &mut [u8], choice: u32, column: Column)
     requires { (column.image + column.end) * 512 ≤ length run.old }
-    ensures { ChosenAlone choice column.image column.start column.end run.old run.new }
+    ensures { Chosen choice column.image column.start column.end run.old run.new }
 {
     for at in column.start..column.end {
         choose_one(run, choice, column.image, at);

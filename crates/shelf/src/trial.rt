@@ -1,29 +1,43 @@
-// The trial shelf: keeps what is settled apart from what is current, and loses power and members where it is told to.
+// The trial shelf: keeps what is durable apart from what is current, and loses power and members where it is told to.
 ghost use Rattle.std.specs.Prelude.{◌≡◌, ◌*◌, ◌≤◌, length, IfOk};
 ghost use Rattle.shelf.specs.Fuses.{ControlsStand};
 ghost use Rattle.shelf.specs.Meaning.{Flushed, Reads, Restarts, Writes};
 ghost use Rattle.shelf.specs.Runs.{BlankOf, FitsRun};
-ghost use Rattle.shelf.specs.Trials.{Loses, TrialFlushes, TrialMade, TrialReads, TrialRestarts, TrialWrites, controlled, fresh, means, with_choice, with_fuse};
+ghost use Rattle.shelf.specs.Trials.{Loses, ControlSet, TrialFlushes, TrialMade, TrialReads, TrialRestarts, TrialWrites, controlled, new_controls, means, with_choice, with_fuse};
 ghost use Rattle.std.proofs.Common.{rules, arith};
 
+use crate::controlled::Controlled;
 use crate::controls::Controls;
 pub use crate::controls::NEVER;
 use crate::image::Image;
 use crate::images::Images;
-use crate::{Answer, Failure, Shelf};
+use crate::{Answer, Failure, MOST_SECTORS, Shelf};
 use answer::Refusal;
 use sector::Sector;
 use std::alloc::{AllocError, Global};
 use std::marker::Model;
 
-// When the power goes, in operations from now, and which of the sectors that are not settled survive then, by their places modulo 32.
+// When the power goes, in operations from now, and which of the sectors that are not durable survive then, by their places modulo 32.
 #[derive(Clone, Copy, PartialEq, Eq, Debug)]
 pub struct Cut {
     pub fuse: u32,
     pub choice: u32,
 }
 
-// The settled image and the current one, and what is to happen to them.
+// One of its controls.
+#[derive(Clone, Copy, PartialEq, Eq, Debug)]
+pub enum Control {
+    // in so many operations more the power goes
+    Fuse(u32),
+    // a restart takes what is current where the word has a 1, by a sector's place modulo 32
+    Choice(u32),
+    // both of these
+    Cut(Cut),
+    // the member is found absent at its next operation
+    Loss(u64),
+}
+
+// The durable image and the current one, and what is to happen to them.
 #[derive(Drop)]
 pub struct TrialShelf {
     images: Images<2>,
@@ -60,7 +74,7 @@ impl TrialShelf {
     // A shelf of zeros; where the limits are not kept, one of 2 members without sectors.
     pub fn blank(heap: Global, members: u64, sectors: u64) -> Result<TrialShelf, AllocError>
         ensures run { IfOk result (λ s. BlankOf members sectors 2 s.members s.sectors s.run) }
-        ensures controls { IfOk result (λ s. s.controls ≡ fresh) }
+        ensures controls { IfOk result (λ s. s.controls ≡ new_controls) }
     {
         Ok(TrialShelf {
             images: Images::blank(heap, members, sectors)?,
@@ -144,7 +158,7 @@ impl Shelf for TrialShelf {
 
     fn sectors(&self) -> u64
         ensures sectors { result ≡ self.now.sectors }
-        ensures short { result ≤ 33554432 }
+        ensures short { result ≤ MOST_SECTORS }
     {
         self.images.extent.sectors
     }
@@ -190,7 +204,7 @@ impl Shelf for TrialShelf {
             return Err(Failure::OutOfRange);
         }
         self.controls.strike(member)?;
-        self.images.settle(member);
+        self.images.persist(member);
         Ok(())
     }
 
@@ -208,6 +222,22 @@ impl Shelf for TrialShelf {
 impl Image for TrialShelf {
     fn current(&self, member: u64, sector: u64) -> Option<Sector> {
         self.images.current(member, sector)
+    }
+}
+
+impl Controlled for TrialShelf {
+    type Control = Control;
+
+    ghost sets = { ControlSet };
+
+    fn control(&mut self, control: Control) -> Result<(), Refusal> {
+        match control {
+            Control::Fuse(fuse) => self.set_fuse(fuse),
+            Control::Choice(choice) => self.set_choice(choice),
+            Control::Cut(cut) => self.set_cut(cut),
+            Control::Loss(member) => return self.lose(member),
+        }
+        Ok(())
     }
 }
 
