@@ -1,6 +1,6 @@
-pub mod Disks
-pub mod Firsts
-pub mod Looking
-pub mod Misplaced
-pub mod Sectors
-pub mod Showing
+pub mod Mays
+pub mod Readable
+pub mod Runs
+pub mod WorkedAnswers
+pub mod WorkedCalls
+pub mod Working

@@ -1,12 +1,12 @@
 -- The flat disk: what a volume shows, and what each call makes of it.
-use Rattle.std.specs.Prelude.{◌≡◌, ℕ, ◌+◌, ◌<◌, cond, List, [], ◌∷◌, ◌++◌, length, replicate, Some, None, Option, ◌==◌, nat_lt, slice_index_or, vec_items}
-use Rattle.stage.specs.declared.phase.Phase.{Phase}
-use Rattle.stage.specs.declared.phase.Phase.TheVariants.{Before, Moving, After, Shut}
-use Rattle.model.specs.declared.disk.Disk.{Disk as Held}
+use Rattle.std.specs.Prelude.{◌≡◌, ℕ, ◌+◌, ◌<◌, cond, List, [], ◌∷◌, ◌++◌, length, replicate, Some, None, Option, ◌==◌, slice_index_or}
+use Rattle.model.specs.declared.phase.Phase.{Phase}
+use Rattle.model.specs.declared.phase.Phase.TheVariants.{Before, Moving, After}
 use Rattle.model.specs.declared.request.Request.{Request}
 use Rattle.model.specs.declared.request.Request.TheVariants.{Read, Write, Begin, Keep, Copy, Settle, HandBack, Finish, Open}
 use Rattle.model.specs.declared.request.Answered.{Answered}
 use Rattle.model.specs.declared.request.Answered.TheVariants.{Granted, Refused, Met}
+use Rattle.model.specs.Contents.{padded}
 use Rattle.model.specs.Verdicts.{emptied}
 
 -- the size, the sectors below it, the phase, the settled and the kept rows, and the row in hand
@@ -22,20 +22,12 @@ pub record Disk : Type 0 where
 abbrev pub disk_of : List (List ℕ) → Phase → (p q : ℕ) → Option ℕ → Disk
 disk_of sectors phase p q hand = record { size = length sectors; content = λ i. slice_index_or sectors i []; phase = phase; settled = p; kept = q; hand = hand }
 
--- what a disk that a program holds shows
-abbrev pub shown : Held → Disk
-shown d = disk_of (vec_items d.sectors) d.phase d.settled d.kept d.hand
-
--- the disk's sectors, and zeros from its size on
-abbrev pub padded : Disk → ℕ → List ℕ
-padded d i = cond (nat_lt i d.size) (d.content i) (replicate 512 0)
-
 abbrev pub with_content : Disk → (ℕ → List ℕ) → Disk
 with_content d f = record { size = d.size; content = f; phase = d.phase; settled = d.settled; kept = d.kept; hand = d.hand }
 
 -- the disk with zeros from its size on
 abbrev pub filled : Disk → Disk
-filled d = with_content d (padded d)
+filled d = with_content d (padded d.size d.content)
 
 -- two disks that show the same
 pub record SameDisk (d e : Disk) : Type 0 where
@@ -53,20 +45,18 @@ created size = record { size = size; content = λ i. replicate 512 0; phase = Be
 abbrev pub with_walk : Disk → Phase → (p q : ℕ) → Option ℕ → Disk
 with_walk d phase p q hand = record { size = d.size; content = d.content; phase = phase; settled = p; kept = q; hand = hand }
 
-abbrev pub written : ℕ → List ℕ → Disk → Disk
-written i x d = with_content d (λ k. cond (k == i) x (d.content k))
+abbrev pub disk_written : ℕ → List ℕ → Disk → Disk
+disk_written i x d = with_content d (λ k. cond (k == i) x (d.content k))
 
 -- a finished move ends when the volume is opened
 abbrev pub opened : Phase → Phase
-opened Before = Before
-opened Moving = Moving
 opened After = Before
-opened (Shut why) = Shut why
+opened s = s
 
 -- what a granted call makes of it
 abbrev pub granted : Request → Disk → Disk
 granted (Read i) d = d
-granted (Write i x) d = written i x d
+granted (Write i x) d = disk_written i x d
 granted Begin d = with_walk d Moving 0 0 d.hand
 granted Keep d = with_walk d d.phase d.settled (d.kept + 1) d.hand
 granted Copy d = with_walk d d.phase d.settled d.kept (Some d.settled)
@@ -80,27 +70,15 @@ abbrev pub released : ℕ → Disk → Disk
 released row d = with_walk d d.phase d.settled d.kept (emptied d.hand row)
 
 abbrev pub refused : Request → Disk → Disk
-refused (Read i) d = d
-refused (Write i x) d = d
-refused Begin d = d
-refused Keep d = d
-refused Copy d = d
 refused (Settle row) d = released row d
 refused (HandBack row) d = released row d
-refused Finish d = d
-refused Open d = d
+refused r d = d
 
 -- open adds no candidate: what it does anew was there to be shown before
 abbrev pub candidates : Request → Disk → List Disk
-candidates (Read i) d = d ∷ granted (Read i) d ∷ []
-candidates (Write i x) d = d ∷ granted (Write i x) d ∷ []
-candidates Begin d = d ∷ granted Begin d ∷ []
-candidates Keep d = d ∷ granted Keep d ∷ []
-candidates Copy d = d ∷ granted Copy d ∷ []
 candidates (Settle row) d = released row d ∷ granted (Settle row) d ∷ []
-candidates (HandBack row) d = d ∷ granted (HandBack row) d ∷ []
-candidates Finish d = d ∷ granted Finish d ∷ []
 candidates Open d = d ∷ []
+candidates r d = d ∷ granted r d ∷ []
 
 abbrev pub each : (Disk → Disk) → List Disk → List Disk
 each f [] = []

@@ -11,24 +11,26 @@ use Rattle.head.specs.declared.state.Progress.{Progress}
 use Rattle.head.specs.declared.state.Progress.TheVariants.{Idle, Moving}
 use Rattle.overlap.specs.Homes.{window_of}
 use Rattle.shelf.specs.Meaning.{Meaning, Restarts}
-use Rattle.stage.specs.Crew.{borne}
-use Rattle.stage.specs.Done.{OnSector}
-use Rattle.stage.specs.Ends.{Cut, Names}
-use Rattle.stage.specs.Heads.{LedBelow, Looked}
-use Rattle.stage.specs.May.{May, nothing}
+use Rattle.model.specs.Crew.{crew, enough}
+use Rattle.model.specs.Faults.{OnSector}
+use Rattle.model.specs.Ends.{Cut, Names}
+use Rattle.model.specs.Heads.{LedBelow, HeadsRead}
+use Rattle.model.specs.May.{May, nothing}
+use Rattle.model.specs.Knowing.{phase_by}
 use Rattle.model.specs.Verdicts.{RefusedBy, first_refusal, fits}
+use Rattle.head.specs.declared.TheConstants.{MOST_NUMBER}
 
 abbrev pub same_label : Label → Label → Bool
 same_label l k = (l.kind == k.kind && (l.members == k.members && l.copies == k.copies))
     && (l.reserved == k.reserved && (l.chunk == k.chunk && l.depth == k.depth))
 
 -- an idle head names the source only
-abbrev pub names_target_lem : Progress → Label → Bool
-names_target_lem Idle target = true
-names_target_lem (Moving label p q) target = same_label label target
+abbrev pub target_named : Progress → Label → Bool
+target_named Idle target = true
+target_named (Moving label p q) target = same_label label target
 
-abbrev pub names_layouts_lem : Head → (source target : Label) → Bool
-names_layouts_lem h source target = same_label h.source source && names_target_lem h.progress target
+abbrev pub layouts_named : Head → (source target : Label) → Bool
+layouts_named h source target = same_label h.source source && target_named h.progress target
 
 -- p settled and q kept rows can be those of a move
 abbrev pub walk_fits : (source target : Geometry) → (size backup p q : ℕ) → Bool
@@ -46,22 +48,17 @@ logged_fits (Some i) size = nat_lt i size
 abbrev pub head_fits : Head → Meaning → (source target : Geometry) → Bool
 head_fits h a s t = logged_fits h.armed h.size && (fits a s h.backup h.size && progress_fits h.progress a s t h.size h.backup)
 
--- the layouts that a head has in force bear the losses
-abbrev pub progress_borne : Progress → Meaning → (source target : Geometry) → Bool
-progress_borne Idle a s t = borne s a
-progress_borne (Moving label p q) a s t = borne s a && borne t a
-
 -- an armed head needs a number to disarm it
 abbrev pub cannot_disarm : Option ℕ → ℕ → Bool
 cannot_disarm None number = false
-cannot_disarm (Some i) number = nat_lt (9223372036854775807 - number) 1
+cannot_disarm (Some i) number = nat_lt (MOST_NUMBER - number) 1
 
 -- open's verdict on the head that leads
 abbrev pub head_verdict : Head → Meaning → (sourceLabel targetLabel : Label) → (source target : Geometry) → Option Refusal
 head_verdict h a sl tl s t = first_refusal (
-    (not (names_layouts_lem h sl tl), LabelsDiffer)
+    (not (layouts_named h sl tl), LabelsDiffer)
     ∷ (not (head_fits h a s t), HeadMisfit)
-    ∷ (not (progress_borne h.progress a s t), MembersLost)
+    ∷ (not (enough (crew (phase_by h.progress) s t) a), MembersLost)
     ∷ (cannot_disarm h.armed h.number, NumbersSpent)
     ∷ [])
 
@@ -74,7 +71,7 @@ open_verdict (Some h) a sl tl s t = head_verdict h a sl tl s t
 pub record Searched (a b : Meaning) (found : Option Head) : Type 0 where
   pub restarted : Meaning
   pub restarts : Restarts a restarted true
-  pub looked : Looked restarted b
+  pub looked : HeadsRead restarted b
   pub led : LedBelow b b.members found
 
 -- the shelf did not come on

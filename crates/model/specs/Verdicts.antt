@@ -1,20 +1,23 @@
 -- What a call answers before its first operation: the first of its refusals that applies, in the order in which they are told.
 use Rattle.std.specs.Prelude.{◌≡◌, ℕ, ◌+◌, ◌-◌, ◌*◌, ◌/◌, Bool, true, false, cond, not, ◌&&◌, List, [], ◌∷◌, Some, None, Ok, Err, Option, Result, ◌==◌, nat_le, nat_lt}
+use Rattle.sector.specs.declared.limits.TheConstants.{FEWEST_MEMBERS, MOST_MEMBERS}
 use Rattle.answer.specs.declared.Refusal.{Refusal}
 use Rattle.answer.specs.declared.Refused.{Refused}
-use Rattle.answer.specs.declared.Refusal.TheVariants.{BufferLength, PastEnd, WrongPhase, RowInHand, NeedNotKept, BackupFull, AllKept, RowsLeft, AllSettled, DistanceAboveBackup, OutOfLimits, NoHead, LabelsDiffer, HeadMisfit, MembersLost, PowerLost, NumbersSpent, WrongGrant}
+use Rattle.answer.specs.declared.Refusal.TheVariants.{BufferLength, PastEnd, WrongPhase, RowInHand, NeedNotKept, BackupFull, AllKept, RowsLeft, AllSettled, DistanceAboveBackup, OutOfLimits, MembersLost, PowerLost, NumbersSpent, WrongGrant}
 use Rattle.layout.specs.Geometry.{Geometry, capacity}
 use Rattle.layout.specs.Labels.{true_label}
 use Rattle.layout.specs.declared.label.Label.{Label}
 use Rattle.overlap.specs.Homes.{window_of}
 use Rattle.overlap.specs.Needs.{distance_of, need_of}
 use Rattle.shelf.specs.Meaning.{Meaning}
-use Rattle.stage.specs.Crew.{borne, enough}
-use Rattle.stage.specs.declared.phase.Phase.{Phase}
-use Rattle.stage.specs.declared.phase.Phase.TheVariants.{Before, Moving, After, Shut}
+use Rattle.model.specs.Crew.{borne, enough}
+use Rattle.model.specs.declared.phase.Phase.{Phase}
+use Rattle.model.specs.declared.phase.Phase.TheVariants.{Before, Moving, Shut}
 use Rattle.model.specs.Knowing.{Volume}
 use Rattle.model.specs.declared.call.Call.{Call}
 use Rattle.model.specs.declared.call.Call.TheVariants.{Read, Write, Begin, Keep, Copy, Settle, Finish}
+use Rattle.head.specs.declared.TheConstants.{MOST_BACKUP, MOST_NUMBER}
+use Rattle.shelf.specs.declared.TheConstants.{MOST_SECTORS}
 
 -- the first refusal whose condition holds
 abbrev pub first_refusal : List (Bool × Refusal) → Option Refusal
@@ -22,46 +25,23 @@ first_refusal [] = None
 first_refusal (c ∷ rest) = cond c.0 (Some c.1) (first_refusal rest)
 
 -- Each phase has its calls: read and write all three, begin the one before a move, the others the move.
-abbrev pub named : Call → Phase → Bool
-named Read phase = true
-named Write phase = true
-named Begin Before = true
-named Begin Moving = false
-named Begin After = false
-named Begin (Shut why) = false
-named Keep Before = false
-named Keep Moving = true
-named Keep After = false
-named Keep (Shut why) = false
-named Copy Before = false
-named Copy Moving = true
-named Copy After = false
-named Copy (Shut why) = false
-named Settle Before = false
-named Settle Moving = true
-named Settle After = false
-named Settle (Shut why) = false
-named Finish Before = false
-named Finish Moving = true
-named Finish After = false
-named Finish (Shut why) = false
+abbrev pub call_of_phase : Call → Phase → Bool
+call_of_phase Read phase = true
+call_of_phase Write phase = true
+call_of_phase Begin Before = true
+call_of_phase Begin phase = false
+call_of_phase call Moving = true
+call_of_phase call phase = false
 
 -- begin's target has to bear the losses before it comes into force
 abbrev pub unborne : Call → Geometry → Meaning → Bool
 unborne Begin t a = not (borne t a)
-unborne Read t a = false
-unborne Write t a = false
-unborne Keep t a = false
-unborne Copy t a = false
-unborne Settle t a = false
-unborne Finish t a = false
+unborne call t a = false
 
 -- a volume that is shut answers one thing to all
 abbrev pub shut_or : Phase → Option Refusal → Option Refusal
-shut_or Before o = o
-shut_or Moving o = o
-shut_or After o = o
 shut_or (Shut why) o = Some why
+shut_or phase o = o
 
 -- one verdict, and where it is none, another
 abbrev pub earlier : Option Refusal → Option Refusal → Option Refusal
@@ -74,12 +54,12 @@ admission call v a = shut_or v.crew.phase (first_refusal (
     (not a.on, PowerLost)
     ∷ (not (enough v.crew a), MembersLost)
     ∷ (unborne call v.crew.target a, MembersLost)
-    ∷ (not (named call v.crew.phase), WrongPhase)
+    ∷ (not (call_of_phase call v.crew.phase), WrongPhase)
     ∷ []))
 
 -- fewer numbers are left than so many checkpoints take
 abbrev pub spent : Volume → ℕ → Bool
-spent v checkpoints = nat_lt (9223372036854775807 - v.number) checkpoints
+spent v checkpoints = nat_lt (MOST_NUMBER - v.number) checkpoints
 
 -- row r of the target is in hand, and sector i is one of it
 abbrev pub in_hand : Option ℕ → ℕ → ℕ → Bool
@@ -111,12 +91,12 @@ write_verdict v a i length = earlier (admission Write v a) (earlier (access_verd
     ∷ [])))
 
 -- a shelf in its limits
-abbrev pub in_limits : Meaning → Bool
-in_limits a = (nat_le 2 a.members && nat_le a.members 16) && (nat_le 1 a.sectors && nat_le a.sectors 33554432)
+abbrev pub shelf_in_limits : Meaning → Bool
+shelf_in_limits a = (nat_le FEWEST_MEMBERS a.members && nat_le a.members MOST_MEMBERS) && (nat_le 1 a.sectors && nat_le a.sectors MOST_SECTORS)
 
 -- the layout, the slots before it and a volume of this size have room on the shelf
 abbrev pub fits : Meaning → Geometry → (backup size : ℕ) → Bool
-fits a g backup size = in_limits a && (nat_le g.members a.members && (nat_le (3 + backup + g.depth) a.sectors && nat_le size (capacity g)))
+fits a g backup size = shelf_in_limits a && (nat_le g.members a.members && (nat_le (3 + backup + g.depth) a.sectors && nat_le size (capacity g)))
 
 abbrev pub begin_verdict : Label → Volume → Meaning → Option Refusal
 begin_verdict label v a = earlier (admission Begin v a) (first_refusal (
@@ -126,13 +106,13 @@ begin_verdict label v a = earlier (admission Begin v a) (first_refusal (
     ∷ []))
 
 -- the sectors that stand in slots once the next source row is kept
-abbrev pub next_window_lem : Volume → ℕ
-next_window_lem v = window_of v.crew.source.row_len v.crew.target.row_len v.settled v.size (v.kept + 1)
+abbrev pub window_after_keep : Volume → ℕ
+window_after_keep v = window_of v.crew.source.row_len v.crew.target.row_len v.settled v.size (v.kept + 1)
 
 abbrev pub keep_verdict : Volume → Meaning → Option Refusal
 keep_verdict v a = earlier (admission Keep v a) (first_refusal (
     (nat_le v.size (v.kept * v.crew.source.row_len), AllKept)
-    ∷ (nat_lt v.backup (next_window_lem v), BackupFull)
+    ∷ (nat_lt v.backup (window_after_keep v), BackupFull)
     ∷ (spent v 1, NumbersSpent)
     ∷ []))
 
@@ -149,10 +129,13 @@ settle_verdict v a row = earlier (admission Settle v a) (first_refusal ((not (is
 abbrev pub finish_verdict : Volume → Meaning → Option Refusal
 finish_verdict v a = earlier (admission Finish v a) (first_refusal ((nat_lt v.settled v.crew.target.rows, RowsLeft) ∷ (spent v 1, NumbersSpent) ∷ []))
 
+abbrev pub hand_back_verdict : Volume → ℕ → Option Refusal
+hand_back_verdict v row = first_refusal ((not (is_hand v.hand row), WrongGrant) ∷ [])
+
 -- create judges the source only
 abbrev pub create_verdict : Label → Geometry → Meaning → (backup size : ℕ) → Option Refusal
 create_verdict label source a backup size = first_refusal (
-    (not ((nat_le 1 backup && nat_le backup 4096) && (true_label label source && fits a source backup size)), OutOfLimits)
+    (not ((nat_le 1 backup && nat_le backup MOST_BACKUP) && (true_label label source && fits a source backup size)), OutOfLimits)
     ∷ (not a.on, PowerLost)
     ∷ (not (borne source a), MembersLost)
     ∷ [])
@@ -172,36 +155,18 @@ HandedBack hand row (Ok x) = is_hand hand row ≡ true
 HandedBack hand row (Err e) = (is_hand hand row ≡ false) × (e ≡ record { refusal = WrongGrant; fault = None })
 
 -- a volume that is not shut
-abbrev pub InUse : Phase → Type 0
-InUse Before = Unit {0}
-InUse Moving = Unit {0}
-InUse After = Unit {0}
-InUse (Shut why) = ⊥
+abbrev pub NotShut : Phase → Type 0
+NotShut (Shut why) = ⊥
+NotShut phase = Unit {0}
 
 -- A create or open that was refused shuts its volume, whose calls then answer that power is lost, if that was the reason, and else that
 -- this is no phase for them.
 abbrev pub shut_for : Refusal → Refusal
 shut_for PowerLost = PowerLost
-shut_for BufferLength = WrongPhase
-shut_for PastEnd = WrongPhase
-shut_for WrongPhase = WrongPhase
-shut_for RowInHand = WrongPhase
-shut_for NeedNotKept = WrongPhase
-shut_for BackupFull = WrongPhase
-shut_for AllKept = WrongPhase
-shut_for RowsLeft = WrongPhase
-shut_for AllSettled = WrongPhase
-shut_for DistanceAboveBackup = WrongPhase
-shut_for OutOfLimits = WrongPhase
-shut_for NoHead = WrongPhase
-shut_for LabelsDiffer = WrongPhase
-shut_for HeadMisfit = WrongPhase
-shut_for MembersLost = WrongPhase
-shut_for NumbersSpent = WrongPhase
-shut_for WrongGrant = WrongPhase
+shut_for why = WrongPhase
 
 abbrev pub ShutBy : Phase → Result Unit Refused → Type 0
-ShutBy phase (Ok x) = InUse phase
+ShutBy phase (Ok x) = NotShut phase
 ShutBy phase (Err e) = phase ≡ Shut (shut_for e.refusal)
 
 abbrev pub ShutsBy : Phase → Phase → Result Unit Refused → Type 0

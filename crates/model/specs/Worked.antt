@@ -1,5 +1,5 @@
 -- Examples of every definition of this crate. Contents of one byte stand for sectors.
-use Rattle.std.specs.Prelude.{◌≡◌, ℕ, ◌≤◌, Bool, true, false, cond, List, [], ◌∷◌, replicate, Some, None, Option, ◌==◌, nat_eq, slice_index_or}
+use Rattle.std.specs.Prelude.{◌≡◌, ℕ, ◌≤◌, Bool, true, false, cond, List, [], ◌∷◌, replicate, Some, None, Option, ◌==◌, nat_eq}
 use Rattle.std.proofs.Common.{arith}
 use Rattle.answer.specs.declared.Refusal.{Refusal}
 use Rattle.answer.specs.declared.Refusal.TheVariants.{BufferLength, PastEnd, WrongPhase, RowInHand, NeedNotKept, BackupFull, AllKept, RowsLeft, AllSettled, DistanceAboveBackup, OutOfLimits, NoHead, LabelsDiffer, HeadMisfit, MembersLost, PowerLost, NumbersSpent, WrongGrant}
@@ -8,27 +8,25 @@ use Rattle.head.specs.declared.state.Progress.{Progress}
 use Rattle.head.specs.declared.state.Progress.TheVariants.{Idle, Moving as UnderWay}
 use Rattle.layout.specs.Geometry.{Geometry}
 use Rattle.layout.specs.declared.label.Label.{Label}
-use Rattle.layout.specs.declared.place.Owner.TheVariants.{Datum, Nobody, Parity}
+use Rattle.layout.specs.declared.place.Owner.TheVariants.{Datum, Nobody}
 use Rattle.overlap.specs.declared.walk.Home.TheVariants.{Source, Target, Backup}
 use Rattle.shelf.specs.Meaning.{Meaning}
-use Rattle.stage.specs.declared.phase.Phase.{Phase}
-use Rattle.stage.specs.declared.phase.Phase.TheVariants.{Before, Moving, After, Shut}
-use Rattle.model.specs.declared.count.Told.{Told}
-use Rattle.model.specs.declared.request.Request.TheVariants.{Read, Write, Begin, Keep, Copy, Settle, Finish, Open}
-use Rattle.model.specs.declared.request.Request.{Request}
-use Rattle.model.specs.declared.request.Answered.{Answered}
-use Rattle.model.specs.declared.request.Answered.TheVariants.{Granted, Refused, Met}
+use Rattle.model.specs.declared.phase.Phase.{Phase}
+use Rattle.model.specs.declared.phase.Phase.TheVariants.{Before, Moving, After, Shut}
+use Rattle.model.specs.declared.told.Told.{Told}
+use Rattle.model.specs.declared.request.Request.TheVariants.{Write, Begin, Keep, Copy, Settle, Finish, Open}
+use Rattle.model.specs.declared.request.Answered.TheVariants.{Met}
 use Rattle.model.specs.Contents.{home_in}
 use Rattle.model.specs.Disks.{Disk, after, disk_of, granted, refused}
-use Rattle.model.specs.Effects.{content_of, created_over, left_by, parity_with, redone}
-use Rattle.model.specs.Histories.{Event, Law, Lacks, chosen, due, taken_after}
+use Rattle.model.specs.Histories.{chosen}
 use Rattle.model.specs.Knowing.{Volume}
 use Rattle.model.specs.Opening.{open_verdict}
-use Rattle.model.specs.Strays.{misplaced, strays}
+use Rattle.model.specs.Strays.{misplaced_count, stray_count}
 use Rattle.model.specs.Verdicts.{begin_verdict, copy_verdict, create_verdict, finish_verdict, keep_verdict, read_verdict, settle_verdict, write_verdict}
+use Rattle.head.specs.declared.TheConstants.{MOST_NUMBER}
 
 -- mirrors: two copies of each of two sectors, on two members
-abbrev mirror : Geometry
+abbrev pub mirror : Geometry
 mirror = record {
   members = 2;
   depth = 2;
@@ -46,7 +44,7 @@ mirror = record {
 }
 
 -- stripes: two sectors in one row, on two members
-abbrev stripe : Geometry
+abbrev pub stripe : Geometry
 stripe = record {
   members = 2;
   depth = 1;
@@ -63,52 +61,34 @@ stripe = record {
   owner = λ p. cond (p.1 == 0) (Datum p.0 0) Nobody;
 }
 
--- one group: two sectors and their parity, on three members
-abbrev triple : Geometry
-triple = record {
-  members = 3;
-  depth = 1;
-  copies = 1;
-  loss = 1;
-  row_len = 2;
-  rows = 1;
-  groups = 1;
-  datum = λ i j. (i, 0);
-  group = λ i. 0;
-  peers = λ x. 2;
-  peer = λ x b. b;
-  parity = λ x. (2, 0);
-  owner = λ p. cond (p.0 == 2) (Parity 0) (Datum p.0 0);
-}
-
 -- a shelf of two members and six sectors, with one backup slot: sector 3 is the slot, and the body is sectors 4 and 5
-abbrev shelf_of : (on : Bool) → (ℕ → Bool) → (ℕ → ℕ → List ℕ) → Meaning
-shelf_of on there held = record { members = 2; sectors = 6; on = on; present = there; settled = held; current = held }
+abbrev pub example_shelf : (on : Bool) → (ℕ → Bool) → (ℕ → ℕ → List ℕ) → Meaning
+example_shelf on there held = record { members = 2; sectors = 6; on = on; present = there; durable = held; current = held }
 
-abbrev all : ℕ → Bool
+abbrev pub all : ℕ → Bool
 all k = true
 
 -- member 0 is gone
-abbrev last : ℕ → Bool
+abbrev pub last : ℕ → Bool
 last k = k == 1
 
 -- sectors 7 and 8 on each member of a mirror; and the same with one copy of the second stale
-abbrev right : ℕ → ℕ → List ℕ
+abbrev pub right : ℕ → ℕ → List ℕ
 right k s = cond (s == 4) (7 ∷ []) (cond (s == 5) (8 ∷ []) (9 ∷ []))
 
-abbrev stale : ℕ → ℕ → List ℕ
+abbrev pub stale : ℕ → ℕ → List ℕ
 stale k s = cond (k == 0) (right k s) (cond (s == 5) (6 ∷ []) (right k s))
 
-abbrev disk : Disk
+abbrev pub disk : Disk
 disk = disk_of ((7 ∷ []) ∷ (8 ∷ []) ∷ []) Before 0 0 None
 
-abbrev told : Told
+abbrev pub told : Told
 told = record { size = 2; phase = Before; settled = 0; kept = 0; hand = None }
 
-abbrev moved : Told
+abbrev pub moved : Told
 moved = record { size = 2; phase = Before; settled = 1; kept = 0; hand = None }
 
-abbrev volume_of : Phase → (settled kept : ℕ) → Option ℕ → ℕ → Volume
+abbrev pub volume_of : Phase → (settled kept : ℕ) → Option ℕ → ℕ → Volume
 volume_of phase p q hand number = record {
   crew = record { phase = phase; source = mirror; target = stripe };
   number = number;
@@ -120,7 +100,7 @@ volume_of phase p q hand number = record {
 }
 
 -- two rows of mirrors that move into stripes, and the other way round
-abbrev volume_back : Volume
+abbrev pub volume_back : Volume
 volume_back = record {
   crew = record { phase = Before; source = stripe; target = mirror };
   number = 1;
@@ -131,24 +111,17 @@ volume_back = record {
   hand = None;
 }
 
--- three members with sectors 7 and 8 and their exclusive-or
-abbrev grouped : Meaning
-grouped = record { members = 3; sectors = 5; on = true; present = all; settled = held; current = held }
-  where
-    held : ℕ → ℕ → List ℕ
-    held k s = cond (k == 0) (7 ∷ []) (cond (k == 1) (8 ∷ []) (15 ∷ []))
-
 -- the number of the last checkpoint that there can be
-abbrev last_number : ℕ
-last_number = 9223372036854775807
+abbrev pub last_number : ℕ
+last_number = MOST_NUMBER
 
-abbrev label : ℕ → Label
+abbrev pub label : ℕ → Label
 label kind = record { kind = kind; members = 2; copies = 1; reserved = 0; chunk = 1; depth = 1 }
 
-abbrev mirror_label : Label
+abbrev pub mirror_label : Label
 mirror_label = record { kind = 3; members = 2; copies = 2; reserved = 0; chunk = 1; depth = 2 }
 
-abbrev head_of : (number : ℕ) → (1 ≤ number) × (number ≤ 9223372036854775807) → Progress → Option ℕ → Head
+abbrev pub head_of : (number : ℕ) → (1 ≤ number) × (number ≤ MOST_NUMBER) → Progress → Option ℕ → Head
 head_of number some progress armed = record {
   number = number;
   source = mirror_label;
@@ -161,27 +134,23 @@ head_of number some progress armed = record {
 }
 
 -- what open answers to a head of mirrors on the way to stripes
-abbrev opens : Option Head → (ℕ → Bool) → Label → Option Refusal
-opens h there target = open_verdict h (shelf_of true there right) mirror_label target mirror stripe
+abbrev pub opens : Option Head → (ℕ → Bool) → Label → Option Refusal
+opens h there target = open_verdict h (example_shelf true there right) mirror_label target mirror stripe
 
-abbrev first_head : Progress → Option ℕ → Option Head
+abbrev pub first_head : Progress → Option ℕ → Option Head
 first_head progress armed = Some (head_of 1 (omega arith, omega arith) progress armed)
 
-abbrev last_head : Progress → Option ℕ → Option Head
+abbrev pub last_head : Progress → Option ℕ → Option Head
 last_head progress armed = Some (head_of last_number (omega arith, omega arith) progress armed)
 
--- the contents that a call has read
-abbrev read : ℕ → List ℕ
-read i = cond (i == 0) (7 ∷ []) (8 ∷ [])
-
 pub record CountExamples : Type 0 where
-  pub none : strays mirror stripe (shelf_of true all right) 1 told disk ≡ 0
-  pub stale_copy : strays mirror stripe (shelf_of true all stale) 1 told disk ≡ 1
-  pub stale_gone : strays mirror stripe (shelf_of true (λ k. nat_eq k 0) stale) 1 told disk ≡ 0
-  pub tells_other : strays mirror stripe (shelf_of true all right) 1 moved disk ≡ 1
-  pub no_copy : strays stripe mirror (shelf_of true last right) 1 told disk ≡ 2
-  pub fresh : misplaced mirror (shelf_of true all right) 1 disk ≡ 0
-  pub misplaced : misplaced mirror (shelf_of true all stale) 1 disk ≡ 1
+  pub none : stray_count mirror stripe (example_shelf true all right) 1 told disk ≡ 0
+  pub stale_copy : stray_count mirror stripe (example_shelf true all stale) 1 told disk ≡ 1
+  pub stale_gone : stray_count mirror stripe (example_shelf true (λ k. nat_eq k 0) stale) 1 told disk ≡ 0
+  pub tells_other : stray_count mirror stripe (example_shelf true all right) 1 moved disk ≡ 1
+  pub no_copy : stray_count stripe mirror (example_shelf true last right) 1 told disk ≡ 2
+  pub fresh : misplaced_count mirror (example_shelf true all right) 1 disk ≡ 0
+  pub misplaced : misplaced_count mirror (example_shelf true all stale) 1 disk ≡ 1
 
 pub record HomeExamples : Type 0 where
   pub before : home_in Before mirror stripe 0 0 1 ≡ Source
@@ -189,25 +158,6 @@ pub record HomeExamples : Type 0 where
   pub backup : home_in Moving mirror stripe 0 1 0 ≡ Backup
   pub source : home_in Moving mirror stripe 0 1 1 ≡ Source
   pub after : home_in After mirror stripe 0 0 1 ≡ Target
-
-pub record EffectExamples : Type 0 where
-  pub content : content_of (volume_of Before 0 0 None 1) (shelf_of true last right) 1 ≡ 8 ∷ []
-  pub slot : content_of (volume_of Moving 0 1 None 1) (shelf_of true all right) 0 ≡ 9 ∷ []
-  pub written : left_by (Write 1 (5 ∷ [])) (volume_of Before 0 0 None 1) read (6 ∷ []) right 0 5 ≡ 5 ∷ []
-  pub both_copies : left_by (Write 1 (5 ∷ [])) (volume_of Before 0 0 None 1) read (6 ∷ []) right 1 5 ≡ 5 ∷ []
-  pub other_place : left_by (Write 1 (5 ∷ [])) (volume_of Before 0 0 None 1) read (6 ∷ []) right 0 4 ≡ 7 ∷ []
-  pub log : left_by (Write 1 (5 ∷ [])) (volume_of Before 0 0 None 1) read (6 ∷ []) right 1 1 ≡ 5 ∷ []
-  pub logged_parity : left_by (Write 1 (5 ∷ [])) (volume_of Before 0 0 None 1) read (6 ∷ []) right 1 2 ≡ 6 ∷ []
-  pub to_slot : left_by (Write 0 (5 ∷ [])) (volume_of Moving 0 1 None 1) read (6 ∷ []) right 0 3 ≡ 5 ∷ []
-  pub kept : left_by Keep (volume_of Moving 0 0 None 1) read [] right 1 3 ≡ 7 ∷ []
-  pub copied : left_by Copy (volume_of Moving 0 2 None 1) read [] right 1 4 ≡ 8 ∷ []
-  pub not_copied : left_by Copy (volume_of Moving 0 2 None 1) read [] right 0 5 ≡ 8 ∷ []
-  pub settled : left_by (Settle 0) (volume_of Moving 0 2 (Some 0) 1) read [] right 0 4 ≡ 7 ∷ []
-  pub created : created_over mirror 1 right 1 5 ≡ replicate 512 0
-  pub redone : redone (Some 1) Idle mirror stripe 1 (5 ∷ []) [] right 0 5 ≡ 5 ∷ []
-  -- the other peer is 8, and 5 and 8 make 13
-  pub parity : slice_index_or (parity_with triple grouped 1 0 (5 ∷ [])) 0 0 ≡ 13
-  pub no_group : slice_index_or (parity_with mirror grouped 1 0 (5 ∷ [])) 0 9 ≡ 0
 
 pub record OpenExamples : Type 0 where
   pub none : opens None all (label 1) ≡ Some NoHead
@@ -220,45 +170,6 @@ pub record OpenExamples : Type 0 where
   pub numbers : opens (last_head Idle (Some 1)) all (label 1) ≡ Some NumbersSpent
   pub unarmed : opens (last_head Idle None) all (label 1) ≡ None
 
--- a call of a volume of mirrors on this shelf, as it was seen
-abbrev seen : Request → Answered → Option Refusal → List ℕ → Meaning → Event
-seen r answered refusal given a = record {
-  request = r;
-  answered = answered;
-  refusal = refusal;
-  given = given;
-  rows = 0;
-  kept = 0;
-  shelf = a;
-  told = told;
-  source = mirror;
-  target = stripe;
-}
-
-abbrev blank : ℕ → ℕ → List ℕ
-blank k s = replicate 512 0
-
--- under way with so many rows settled and kept
-abbrev walking : (settled kept : ℕ) → Disk
-walking p q = disk_of ((7 ∷ []) ∷ (8 ∷ []) ∷ []) Moving p q None
-
-pub record RunExamples : Type 0 where
-  pub stays : taken_after (seen (Read 1) Granted None [] (shelf_of true all right)) true ≡ true
-  pub met : taken_after (seen (Read 1) Met (Some PowerLost) [] (shelf_of false all right)) true ≡ false
-  pub still_open : taken_after (seen (Read 1) Refused (Some PowerLost) [] (shelf_of false all right)) false ≡ false
-  pub opened : taken_after (seen Open Granted None [] (shelf_of true all right)) false ≡ true
-  pub not_opened : taken_after (seen Open Refused (Some LabelsDiffer) [] (shelf_of true all right)) true ≡ false
-  pub keep_due : due Keep mirror stripe (walking 0 0)
-  pub copy_due : due Copy mirror stripe (walking 0 1)
-  pub finish_due : due Finish mirror stripe (walking 1 1)
-  pub copy_not_due : due Copy mirror stripe (walking 0 0) → ⊥
-  pub lacks : Lacks (Some NumbersSpent)
-  -- a volume that was just created is read, and then its power goes at a read
-  pub run : Law 1 2 (seen (Read 1) Granted None (replicate 512 0) (shelf_of true all blank) ∷ seen (Read 0) Met (Some PowerLost) [] (shelf_of false all blank) ∷ [])
-  -- a read that gives something else breaks the law, and so does a shelf that shows something else
-  pub other_read : Law 1 2 (seen (Read 1) Granted None [] (shelf_of true all blank) ∷ []) → ⊥
-  pub other_shelf : Law 1 2 (seen (Read 1) Granted None (replicate 512 0) (shelf_of true all right) ∷ []) → ⊥
-
 pub record DiskExamples : Type 0 where
   pub written : (granted (Write 1 (5 ∷ [])) disk).content 1 ≡ 5 ∷ []
   pub elsewhere : (granted (Write 1 (5 ∷ [])) disk).content 0 ≡ 7 ∷ []
@@ -269,28 +180,28 @@ pub record DiskExamples : Type 0 where
   pub reopened : (granted Open (granted Finish disk)).phase ≡ Before
   pub two : after (Write 1 (6 ∷ [])) Met (disk ∷ []) ≡ disk ∷ granted (Write 1 (6 ∷ [])) disk ∷ []
   -- after a cut write of 5 to sector 1 the shelf holds the old contents, or the new ones
-  pub old_shown : (chosen mirror stripe (shelf_of true all right) 1 told disk (disk ∷ granted (Write 1 (5 ∷ [])) disk ∷ [])).content 1 ≡ 8 ∷ []
-  pub new_shown : (chosen mirror stripe (shelf_of true all (λ k s. cond (s == 5) (5 ∷ []) (right k s))) 1 told disk (disk ∷ granted (Write 1 (5 ∷ [])) disk ∷ [])).content 1 ≡ 5 ∷ []
+  pub old_shown : (chosen mirror stripe (example_shelf true all right) 1 told disk (disk ∷ granted (Write 1 (5 ∷ [])) disk ∷ [])).content 1 ≡ 8 ∷ []
+  pub new_shown : (chosen mirror stripe (example_shelf true all (λ k s. cond (s == 5) (5 ∷ []) (right k s))) 1 told disk (disk ∷ granted (Write 1 (5 ∷ [])) disk ∷ [])).content 1 ≡ 5 ∷ []
 
 pub record VerdictExamples : Type 0 where
-  pub off : read_verdict (volume_of Before 0 0 None 1) (shelf_of false all right) 0 512 ≡ Some PowerLost
-  pub few : read_verdict (volume_of Before 0 0 None 1) (shelf_of true (λ k. false) right) 0 512 ≡ Some MembersLost
-  pub shut : read_verdict (volume_of (Shut WrongPhase) 0 0 None 1) (shelf_of true all right) 0 512 ≡ Some WrongPhase
-  pub phase : keep_verdict (volume_of Before 0 0 None 1) (shelf_of true all right) ≡ Some WrongPhase
-  pub grant : settle_verdict (volume_of Moving 0 0 (Some 0) 1) (shelf_of true all right) 1 ≡ Some WrongGrant
-  pub length : read_verdict (volume_of Before 0 0 None 1) (shelf_of true all right) 5 511 ≡ Some BufferLength
-  pub past : read_verdict (volume_of Before 0 0 None 1) (shelf_of true all right) 2 512 ≡ Some PastEnd
-  pub read : read_verdict (volume_of Before 0 0 None 1) (shelf_of true all right) 1 512 ≡ None
-  pub row_in_hand : write_verdict (volume_of Moving 0 2 (Some 0) 1) (shelf_of true all right) 1 512 ≡ Some RowInHand
-  pub second : copy_verdict (volume_of Moving 0 2 (Some 0) 1) (shelf_of true all right) ≡ Some RowInHand
-  pub limits : create_verdict (label 1) mirror (shelf_of true all right) 0 2 ≡ Some OutOfLimits
-  pub kept : keep_verdict (volume_of Moving 0 2 None 1) (shelf_of true all right) ≡ Some AllKept
-  pub full : keep_verdict (volume_of Moving 0 1 None 1) (shelf_of true all right) ≡ Some BackupFull
-  pub settled : copy_verdict (volume_of Moving 1 2 None 1) (shelf_of true all right) ≡ Some AllSettled
-  pub need : copy_verdict (volume_of Moving 0 0 None 1) (shelf_of true all right) ≡ Some NeedNotKept
-  pub copy : copy_verdict (volume_of Moving 0 1 None 1) (shelf_of true all right) ≡ None
-  pub left : finish_verdict (volume_of Moving 0 2 None 1) (shelf_of true all right) ≡ Some RowsLeft
-  pub numbers : finish_verdict (volume_of Moving 1 2 None last_number) (shelf_of true all right) ≡ Some NumbersSpent
-  pub finish : finish_verdict (volume_of Moving 1 2 None 1) (shelf_of true all right) ≡ None
-  pub distance : begin_verdict mirror_label volume_back (shelf_of true all right) ≡ Some DistanceAboveBackup
-  pub begin : begin_verdict (label 1) (volume_of Before 0 0 None 1) (shelf_of true all right) ≡ None
+  pub off : read_verdict (volume_of Before 0 0 None 1) (example_shelf false all right) 0 512 ≡ Some PowerLost
+  pub few : read_verdict (volume_of Before 0 0 None 1) (example_shelf true (λ k. false) right) 0 512 ≡ Some MembersLost
+  pub shut : read_verdict (volume_of (Shut WrongPhase) 0 0 None 1) (example_shelf true all right) 0 512 ≡ Some WrongPhase
+  pub phase : keep_verdict (volume_of Before 0 0 None 1) (example_shelf true all right) ≡ Some WrongPhase
+  pub grant : settle_verdict (volume_of Moving 0 0 (Some 0) 1) (example_shelf true all right) 1 ≡ Some WrongGrant
+  pub length : read_verdict (volume_of Before 0 0 None 1) (example_shelf true all right) 5 511 ≡ Some BufferLength
+  pub past : read_verdict (volume_of Before 0 0 None 1) (example_shelf true all right) 2 512 ≡ Some PastEnd
+  pub read : read_verdict (volume_of Before 0 0 None 1) (example_shelf true all right) 1 512 ≡ None
+  pub row_in_hand : write_verdict (volume_of Moving 0 2 (Some 0) 1) (example_shelf true all right) 1 512 ≡ Some RowInHand
+  pub second : copy_verdict (volume_of Moving 0 2 (Some 0) 1) (example_shelf true all right) ≡ Some RowInHand
+  pub limits : create_verdict (label 1) mirror (example_shelf true all right) 0 2 ≡ Some OutOfLimits
+  pub kept : keep_verdict (volume_of Moving 0 2 None 1) (example_shelf true all right) ≡ Some AllKept
+  pub full : keep_verdict (volume_of Moving 0 1 None 1) (example_shelf true all right) ≡ Some BackupFull
+  pub settled : copy_verdict (volume_of Moving 1 2 None 1) (example_shelf true all right) ≡ Some AllSettled
+  pub need : copy_verdict (volume_of Moving 0 0 None 1) (example_shelf true all right) ≡ Some NeedNotKept
+  pub copy : copy_verdict (volume_of Moving 0 1 None 1) (example_shelf true all right) ≡ None
+  pub left : finish_verdict (volume_of Moving 0 2 None 1) (example_shelf true all right) ≡ Some RowsLeft
+  pub numbers : finish_verdict (volume_of Moving 1 2 None last_number) (example_shelf true all right) ≡ Some NumbersSpent
+  pub finish : finish_verdict (volume_of Moving 1 2 None 1) (example_shelf true all right) ≡ None
+  pub distance : begin_verdict mirror_label volume_back (example_shelf true all right) ≡ Some DistanceAboveBackup
+  pub begin : begin_verdict (label 1) (volume_of Before 0 0 None 1) (example_shelf true all right) ≡ None

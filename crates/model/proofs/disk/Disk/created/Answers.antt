@@ -1,5 +1,0 @@
-use Rattle.model.proofs.Disks.{created_is}
-use Rattle.model.proofs.disk.Disk.created.Goals as goal
-
-pub returns : goal.returns
-returns c = created_is _ c.args.size c.in_ok-sectors.ensures
