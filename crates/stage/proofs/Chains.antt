@@ -5,14 +5,15 @@ use Rattle.answer.specs.declared.Operation.{Operation}
 use Rattle.answer.specs.declared.Operation.TheVariants.{Flush}
 use Rattle.answer.specs.declared.Refused.{Refused}
 use Rattle.shelf.specs.Meaning.{Meaning}
-use Rattle.stage.specs.Crew.{Crew}
-use Rattle.stage.specs.Done.{FlushedAll, OnHeads, OnSector, Spread, WrittenAll}
-use Rattle.stage.specs.Ends.{GoesOn, Names, Stage}
-use Rattle.stage.specs.May.{AtSector, May, nothing}
+use Rattle.model.specs.Crew.{Crew}
+use Rattle.stage.specs.Done.{FlushedAll, Spread, WrittenAll}
+use Rattle.model.specs.Faults.{OnHeads, OnSector}
+use Rattle.model.specs.Ends.{GoesOn, Names, Stage}
+use Rattle.model.specs.May.{AtSector, May, nothing}
 use Rattle.stage.proofs.Loops.{goes_then, holds_stays, was_present}
-use Rattle.stage.proofs.Mays.{may_then, may_wider}
+use Rattle.model.proofs.Mays.{may_then, may_wider}
 
-names_as : (F G : Fault → Type 0) → ((f : Fault) → F f → G f) → (o : Option Fault) → Names F o → Names G o
+pub names_as : (F G : Fault → Type 0) → ((f : Fault) → F f → G f) → (o : Option Fault) → Names F o → Names G o
 names_as F G h None n = n
 names_as F G h (Some f) n = h f n
 

@@ -7,9 +7,9 @@ use Rattle.head.specs.declared.state.Head.{Head}
 use Rattle.head.proofs.Codecs.{accepted, one_head}
 use Rattle.shelf.specs.Meaning.{Meaning}
 use Rattle.stage.specs.Cells.{Others}
-use Rattle.stage.specs.Heads.{HeadOf, HoldsHead, LedBelow, LedBy, Looked}
-use Rattle.stage.specs.May.{May, nothing}
-use Rattle.stage.proofs.Mays.{may_then}
+use Rattle.model.specs.Heads.{HeadOf, HoldsHead, LedBelow, LedBy, HeadsRead}
+use Rattle.model.specs.May.{May, nothing}
+use Rattle.model.proofs.Mays.{may_then}
 
 -- what a member's first sector is read as
 pub read_as : (b : Meaning) (k : ℕ) (bytes : List ℕ) (r : Option Head) → b.present k ≡ true → 0 < b.sectors → bytes ≡ b.current k 0
@@ -89,9 +89,9 @@ led_next c k (Some f) (Some h) r p n l = elim (cases_lt f.number h.number) [
 ]
 
 -- one member more
-pub led_more : (b c : Meaning) (k : ℕ) (found next r : Option Head) → Looked b c → Others k b c → LedBelow b k found → HeadOf c k next → Leads found next r
+pub led_more : (b c : Meaning) (k : ℕ) (found next r : Option Head) → HeadsRead b c → Others k b c → LedBelow b k found → HeadOf c k next → Leads found next r
     → LedBelow c (k + 1) r
 led_more b c k found next r m o p n l = led_next c k found next r (led_still b c k found m.may o p) n l
 
-pub looked_then : {a b c : Meaning} → Looked a b → Looked b c → Looked a c
+pub looked_then : {a b c : Meaning} → HeadsRead a b → HeadsRead b c → HeadsRead a c
 looked_then f g = record { may = may_then f.may g.may; on = λ e. g.on (f.on e) }

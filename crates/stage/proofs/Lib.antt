@@ -1,6 +1,10 @@
 pub mod Chains
 pub mod Crews
+pub mod Endings
+pub mod Folds
 pub mod Loops
-pub mod Mays
+pub mod Looks
 pub mod Operations
+pub mod Places
+pub mod Shown
 pub mod Leading

@@ -2,9 +2,9 @@
 use Rattle.std.proofs.Common.{◌≡◌, ℕ, ◌<◌, true, List, ◌∙◌, inl, inr, arith}
 use Rattle.std.proofs.lemmas.Bool.{both_ways, cases_Bool}
 use Rattle.shelf.specs.Meaning.{Meaning}
-use Rattle.stage.specs.Crew.{Crew}
-use Rattle.stage.specs.Ends.{GoesOn}
-use Rattle.stage.specs.May.{AtSector, May}
+use Rattle.model.specs.Crew.{Crew}
+use Rattle.model.specs.Ends.{GoesOn}
+use Rattle.model.specs.May.{AtSector, May}
 
 -- a stage that has come to member i: E holds of each present member below it
 pub record Upto (w : Crew) (P : ℕ → ℕ → List ℕ → Type 0) (E : ℕ → Meaning → Type 0) (a : Meaning) (i : ℕ) (b : Meaning) : Type 0 where
@@ -21,13 +21,13 @@ was_present {P} {a} {b} m k there =
     elim (cases_Bool (a.present k)) [ inl e ↦ e | inr gone ↦ absurd (both_ways (b.present k) (m.absent_stays k gone) there) ]
 
 -- what holds of a member that is done, and stays while the stage goes on
-abbrev pub Holds : ℕ → List ℕ → ℕ → Meaning → Type 0
-Holds t c k b = t < b.sectors → b.current k t ≡ c
+abbrev pub HoldsIn : ℕ → List ℕ → ℕ → Meaning → Type 0
+HoldsIn t c k b = t < b.sectors → b.current k t ≡ c
 
-abbrev pub AllSettled : ℕ → Meaning → Type 0
-AllSettled k b = (s : ℕ) → b.settled k s ≡ b.current k s
+abbrev pub AllDurable : ℕ → Meaning → Type 0
+AllDurable k b = (s : ℕ) → b.durable k s ≡ b.current k s
 
-pub holds_stays : (t : ℕ) (c : List ℕ) {b d : Meaning} (k : ℕ) → Holds t c k b → May (AtSector t c) b d → Holds t c k d
+pub holds_stays : (t : ℕ) (c : List ℕ) {b d : Meaning} (k : ℕ) → HoldsIn t c k b → May (AtSector t c) b d → HoldsIn t c k d
 holds_stays t c {b} {d} k held m = λ lt. (let same = m.sectors in
     elim (m.current k t) [ inl e ↦ e ∙ held (omega (arith, lt, same)) | inr p ↦ p.content ])
 

@@ -2,29 +2,29 @@
 use Rattle.std.proofs.Common.{◌≡◌, ℕ, ◌<◌, true, false, ◌⊎◌, List, length, sym, refl, ap, ◌∙◌, subst, inl, inr, arith, Ok, Err}
 use mathlib.Core.Path.{fun_ext}
 use Rattle.std.proofs.lemmas.Bool.{both_ways, cases_Bool, cases_eq, cases_lt}
-use Rattle.shelf.specs.Meaning.{Kept, Meaning, Sets, Settles, Tells, WriteIn, Writes}
+use Rattle.shelf.specs.Meaning.{OthersStay, Meaning, Sets, Persists, AnswerTells, WriteIn, Writes}
 use Rattle.shelf.specs.Answers.{Answer}
 use Rattle.shelf.specs.declared.Failure.TheVariants.{Absent, Off, OutOfRange}
-use Rattle.stage.specs.May.{May}
-use Rattle.stage.specs.Cells.{Left, Put, PutAt}
-use Rattle.stage.proofs.Mays.{may_refl}
+use Rattle.model.specs.May.{May}
+use Rattle.stage.specs.Cells.{Left, Puts, PutAt}
+use Rattle.model.proofs.Mays.{may_refl}
 
 -- a member that is there afterwards was there, so all are as they were
-same_present : (m : ℕ) (a b : Meaning) → Kept m a b → b.present m ≡ true → b.present ≡ a.present
+same_present : (m : ℕ) (a b : Meaning) → OthersStay m a b → b.present m ≡ true → b.present ≡ a.present
 same_present m a b kept there =
     let here : b.present m ≡ a.present m =
     elim (cases_Bool (a.present m)) [ inl was ↦ there ∙ sym was | inr gone ↦ absurd (both_ways (b.present m) (kept.absent_stays gone) there) ] in
     fun_ext (λ k. elim (cases_eq k m) [ inl e ↦ subst (λ j. b.present j ≡ a.present j) (sym e) here | inr ne ↦ kept.others k ne ])
 
-left_by : (r : Answer) (m : ℕ) (a b : Meaning) → Kept m a b → Tells r m b → Left r m a b
+left_by : (r : Answer) (m : ℕ) (a b : Meaning) → OthersStay m a b → AnswerTells r m b → Left r m a b
 left_by (Ok x) m a b kept tells = (tells.0, same_present m a b kept tells.1)
 left_by (Err Absent) m a b kept tells = tells
 left_by (Err Off) m a b kept tells = tells
 left_by (Err OutOfRange) m a b kept tells = absurd tells
 
-may_by : {P : ℕ → ℕ → List ℕ → Type 0} (m : ℕ) (a b : Meaning) → Kept m a b → Settles a b
+may_by : {P : ℕ → ℕ → List ℕ → Type 0} (m : ℕ) (a b : Meaning) → OthersStay m a b → Persists a b
     → ((k s : ℕ) → (b.current k s ≡ a.current k s) ⊎ P k s (b.current k s)) → May P a b
-may_by {P} m a b kept settles now = record {
+may_by {P} m a b kept persists now = record {
   members = kept.members;
   sectors = kept.sectors;
   off_stays = kept.off_stays;
@@ -33,7 +33,7 @@ may_by {P} m a b kept settles now = record {
     | inr ne ↦ kept.others k ne ∙ gone
   ];
   current = now;
-  settled = λ k s. elim (settles.settled k s) [
+  durable = λ k s. elim (persists.durable k s) [
     | inl e ↦ inl e
     | inr o ↦ elim o [
       | inl e ↦ inr (inl e)
@@ -49,7 +49,7 @@ set_or_same (Err Absent) c old new e = inl e
 set_or_same (Err Off) c old new e = e
 set_or_same (Err OutOfRange) c old new e = inl e
 
-put_by : (r : Answer) (m t : ℕ) (c : List ℕ) (a b : Meaning) → Tells r m b → Sets r c (a.current m t) (b.current m t) → Put r m t c a b
+put_by : (r : Answer) (m t : ℕ) (c : List ℕ) (a b : Meaning) → AnswerTells r m b → Sets r c (a.current m t) (b.current m t) → Puts r m t c a b
 put_by (Ok x) m t c a b tells sets = λ below. sets
 put_by (Err Absent) m t c a b tells sets = tt
 put_by (Err Off) m t c a b tells sets = tt
@@ -57,7 +57,7 @@ put_by (Err OutOfRange) m t c a b tells sets = absurd tells
 
 put_in : (m t : ℕ) (c : List ℕ) (a b : Meaning) (r : Answer) → WriteIn m t c a b r → PutAt m t c a b r
 put_in m t c a b r w = record {
-  may = may_by m a b w.kept w.settles (λ k s. elim (cases_eq k m) [
+  may = may_by m a b w.kept w.persists (λ k s. elim (cases_eq k m) [
     | inr ne ↦ inl (w.elsewhere k s (λ e. ne e.0))
     | inl e ↦ elim (cases_eq s t) [
       | inr ne ↦ inl (w.elsewhere k s (λ f. ne f.1))

@@ -3,7 +3,7 @@ use Rattle.std.specs.Prelude.{◌≡◌, ℕ, ◌<◌, true, false, List, ◌≢
 use Rattle.shelf.specs.Meaning.{Meaning}
 use Rattle.shelf.specs.Answers.{Answer}
 use Rattle.shelf.specs.declared.Failure.TheVariants.{Absent, Off, OutOfRange}
-use Rattle.stage.specs.May.{AtCell, May, nothing}
+use Rattle.model.specs.May.{AtCell, May, nothing}
 
 -- who is present afterwards, and whether power is
 abbrev pub Left : Answer → ℕ → Meaning → Meaning → Type 0
@@ -17,41 +17,41 @@ abbrev pub Others : ℕ → Meaning → Meaning → Type 0
 Others m a b = (k : ℕ) → (k ≢ m) → b.present k ≡ a.present k
 
 -- a sector t that a present member has
-abbrev pub Has : Meaning → ℕ → ℕ → Type 0
-Has a m t = (a.present m ≡ true) × (t < a.sectors)
+abbrev pub HasCell : Meaning → ℕ → ℕ → Type 0
+HasCell a m t = (a.present m ≡ true) × (t < a.sectors)
 
-abbrev pub Put : Answer → ℕ → ℕ → List ℕ → Meaning → Meaning → Type 0
-Put (Ok x) m t c a b = t < a.sectors → b.current m t ≡ c
-Put (Err Absent) m t c a b = Unit {0}
-Put (Err Off) m t c a b = Unit {0}
-Put (Err OutOfRange) m t c a b = Has a m t → ⊥
+abbrev pub Puts : Answer → ℕ → ℕ → List ℕ → Meaning → Meaning → Type 0
+Puts (Ok x) m t c a b = t < a.sectors → b.current m t ≡ c
+Puts (Err Absent) m t c a b = Unit {0}
+Puts (Err Off) m t c a b = Unit {0}
+Puts (Err OutOfRange) m t c a b = HasCell a m t → ⊥
 
-abbrev pub Got : Answer → ℕ → ℕ → List ℕ → List ℕ → Meaning → Meaning → Type 0
-Got (Ok x) m t old new a b = (t < a.sectors) × (new ≡ b.current m t)
-Got (Err Absent) m t old new a b = new ≡ old
-Got (Err Off) m t old new a b = new ≡ old
-Got (Err OutOfRange) m t old new a b = (new ≡ old) × (Has a m t → ⊥)
+abbrev pub Gets : Answer → ℕ → ℕ → List ℕ → List ℕ → Meaning → Meaning → Type 0
+Gets (Ok x) m t old new a b = (t < a.sectors) × (new ≡ b.current m t)
+Gets (Err Absent) m t old new a b = new ≡ old
+Gets (Err Off) m t old new a b = new ≡ old
+Gets (Err OutOfRange) m t old new a b = (new ≡ old) × (HasCell a m t → ⊥)
 
-abbrev pub Settled : Answer → ℕ → Meaning → Meaning → Type 0
-Settled (Ok x) m a b = (s : ℕ) → b.settled m s ≡ b.current m s
-Settled (Err Absent) m a b = Unit {0}
-Settled (Err Off) m a b = Unit {0}
-Settled (Err OutOfRange) m a b = a.present m ≡ true → ⊥
+abbrev pub FlushLeaves : Answer → ℕ → Meaning → Meaning → Type 0
+FlushLeaves (Ok x) m a b = (s : ℕ) → b.durable m s ≡ b.current m s
+FlushLeaves (Err Absent) m a b = Unit {0}
+FlushLeaves (Err Off) m a b = Unit {0}
+FlushLeaves (Err OutOfRange) m a b = a.present m ≡ true → ⊥
 
 pub record PutAt (m t : ℕ) (c : List ℕ) (a b : Meaning) (r : Answer) : Type 0 where
   pub may : May (AtCell m t c) a b
   pub others : Others m a b
   pub left : Left r m a b
-  pub put : Put r m t c a b
+  pub put : Puts r m t c a b
 
 pub record GotAt (m t : ℕ) (old new : List ℕ) (a b : Meaning) (r : Answer) : Type 0 where
   pub may : May nothing a b
   pub others : Others m a b
   pub left : Left r m a b
-  pub got : Got r m t old new a b
+  pub got : Gets r m t old new a b
 
-pub record SettledAt (m : ℕ) (a b : Meaning) (r : Answer) : Type 0 where
+pub record FlushedBy (m : ℕ) (a b : Meaning) (r : Answer) : Type 0 where
   pub may : May nothing a b
   pub others : Others m a b
   pub left : Left r m a b
-  pub settled : Settled r m a b
+  pub durable : FlushLeaves r m a b

@@ -1,4 +1,4 @@
--- A checkpoint: the next head on every present member, settled.
+-- A checkpoint: the next head on every present member, durable.
 use Rattle.std.specs.Prelude.{◌≡◌, ℕ, ◌⊎◌, None, Ok, Err, Option, Result}
 use Rattle.answer.specs.declared.Refusal.TheVariants.{NumbersSpent}
 use Rattle.answer.specs.declared.Refused.{Refused}
@@ -8,10 +8,12 @@ use Rattle.head.specs.Checkpoints.{Next}
 use Rattle.head.specs.declared.state.Head.{Head}
 use Rattle.head.specs.declared.state.Progress.{Progress}
 use Rattle.shelf.specs.Meaning.{Meaning}
-use Rattle.stage.specs.Crew.{Crew}
-use Rattle.stage.specs.Done.{OnHeads, Spread}
-use Rattle.stage.specs.Ends.{GoesOn, Met}
-use Rattle.stage.specs.May.{AtSector, May}
+use Rattle.model.specs.Crew.{Crew}
+use Rattle.model.specs.Faults.{OnHeads}
+use Rattle.stage.specs.Done.{Spread}
+use Rattle.model.specs.Ends.{GoesOn, Met}
+use Rattle.model.specs.May.{AtSector, May}
+use Rattle.head.specs.declared.TheConstants.{MOST_NUMBER}
 
 -- head k stands on every member that is there
 pub record Stood (w : Crew) (a b : Meaning) (k : Head) : Type 0 where
@@ -21,7 +23,7 @@ pub record Stood (w : Crew) (a b : Meaning) (k : Head) : Type 0 where
 
 -- no number is left, and nothing was done
 pub record Spent (h : Head) (a b : Meaning) (e : Refused) : Type 0 where
-  pub last : h.number ≡ 9223372036854775807
+  pub last : h.number ≡ MOST_NUMBER
   pub refused : e ≡ record { refusal = NumbersSpent; fault = None }
   pub same : b ≡ a
 

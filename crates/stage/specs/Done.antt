@@ -1,30 +1,12 @@
 -- What the stages leave when they are done, and the operations that they name when they are not.
-use Rattle.std.specs.Prelude.{◌≡◌, ℕ, ◌<◌, ◌≤◌, Bool, true, false, ◌⊎◌, List, replicate, Some, None, Ok, Err, Option, Result}
-use Rattle.answer.specs.declared.Operation.{Operation}
-use Rattle.answer.specs.declared.Operation.TheVariants.{Write, Flush}
+use Rattle.std.specs.Prelude.{◌≡◌, ℕ, ◌<◌, ◌≤◌, Bool, true, false, List, replicate, Some, None, Ok, Err, Option, Result}
 use Rattle.answer.specs.declared.Refusal.TheVariants.{MembersLost, PowerLost}
 use Rattle.answer.specs.declared.Fault.{Fault}
 use Rattle.answer.specs.declared.Refused.{Refused}
 use Rattle.shelf.specs.Answers.{Answer}
 use Rattle.shelf.specs.Meaning.{Meaning}
 use Rattle.shelf.specs.declared.Failure.TheVariants.{Absent, Off, OutOfRange}
-use Rattle.stage.specs.Crew.{Crew, enough}
-
--- an operation on a sector of a member that was there
-pub record OnCell (op : Operation) (a : Meaning) (m t : ℕ) (f : Fault) : Type 0 where
-  pub operation : f.operation ≡ op
-  pub member : f.member ≡ m
-  pub there : a.present f.member ≡ true
-  pub sector : f.sector ≡ t
-  pub row : f.row ≡ None
-
--- an operation on a sector of some member that the shelf has, and that was there
-pub record OnSector (op : Operation) (a : Meaning) (t : ℕ) (f : Fault) : Type 0 where
-  pub operation : f.operation ≡ op
-  pub member : f.member < a.members
-  pub there : a.present f.member ≡ true
-  pub sector : f.sector ≡ t
-  pub row : f.row ≡ None
+use Rattle.model.specs.Crew.{Crew, enough}
 
 -- a stage goes on without a member that is gone, or too few are left
 abbrev pub Bears : Crew → Fault → Meaning → Result Bool Refused → Type 0
@@ -42,9 +24,9 @@ Weighed w (Err Absent) f a r = Bears w f a r
 abbrev pub WrittenAt : (m t : ℕ) → List ℕ → Meaning → Type 0
 WrittenAt m t c b = b.present m ≡ true → t < b.sectors → b.current m t ≡ c
 
--- what is current on the member is settled, if it is there
+-- what is current on the member is durable, if it is there
 abbrev pub FlushedAt : ℕ → Meaning → Type 0
-FlushedAt m b = b.present m ≡ true → (s : ℕ) → b.settled m s ≡ b.current m s
+FlushedAt m b = b.present m ≡ true → (s : ℕ) → b.durable m s ≡ b.current m s
 
 -- what is current in a sector, and zeros from the shelf's sectors on
 pub record Holds (m t : ℕ) (b : Meaning) (content : List ℕ) : Type 0 where
@@ -64,14 +46,14 @@ abbrev pub FlushedAll : Meaning → Type 0
 FlushedAll b = (k : ℕ) → FlushedAt k b
 
 -- member k is there, and none below it
-pub record Lowest (b : Meaning) (k : ℕ) : Type 0 where
+pub record LowestMember (b : Meaning) (k : ℕ) : Type 0 where
   pub there : b.present k ≡ true
   pub below : (j : ℕ) → j < k → b.present j ≡ false
 
 -- what the lowest member that is there holds
 pub record FromLowest (t : ℕ) (new : List ℕ) (b : Meaning) : Type 0 where
   pub member : ℕ
-  pub lowest : Lowest b member
+  pub lowest : LowestMember b member
   pub content : Holds member t b new
 
 -- a read from the lowest member, or none is there
@@ -79,15 +61,7 @@ abbrev pub ReadAny : ℕ → Meaning → Option (List ℕ) → Type 0
 ReadAny t b (Some content) = FromLowest t content b
 ReadAny t b None = (k : ℕ) → b.present k ≡ false
 
--- an operation of one kind or of another
-abbrev pub Either : (Fault → Type 0) → (Fault → Type 0) → Fault → Type 0
-Either F G f = F f ⊎ G f
-
--- a head on its way to every member
-abbrev pub OnHeads : Meaning → Fault → Type 0
-OnHeads a = Either (OnSector Write a 0) (OnSector Flush a 0)
-
--- Every member that is there holds the content in sector t, and all that it holds is settled.
+-- Every member that is there holds the content in sector t, and all that it holds is durable.
 pub record Spread (t : ℕ) (c : List ℕ) (b : Meaning) : Type 0 where
   pub written : WrittenAll t c b
   pub flushed : FlushedAll b

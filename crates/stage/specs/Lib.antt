@@ -1,8 +1,7 @@
-pub mod Checkpoint
-pub mod Crew
-pub mod May
-pub mod Walks
+pub mod Arrays
 pub mod Cells
-pub mod Ends
+pub mod Checkpoint
 pub mod Done
-pub mod Heads
+pub mod Endings
+pub mod Looks
+pub mod Walks

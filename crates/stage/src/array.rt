@@ -1,10 +1,11 @@
 // The arrays that a volume is laid on, and whether enough members are present for them.
 ghost use Rattle.std.specs.Prelude.{◌≡◌};
-ghost use Rattle.stage.specs.Crew.{absent_of, borne, crew_of, enough};
+ghost use Rattle.model.specs.Crew.{absent, borne, count, enough};
+ghost use Rattle.stage.specs.Arrays.{crew_of};
 
-use crate::phase::Phase;
 use head::Head;
 use layout::Layout;
+use model::phase::Phase;
 use shelf::Shelf;
 
 // The source and the target, the phase that says which of them is in force, and the last checkpoint.
@@ -18,7 +19,7 @@ pub struct Array<L> {
 
 // How many of the first members are absent.
 fn absent_below<S: Shelf>(shelf: &S, end: u64) -> u64
-    ensures { result ≡ absent_of (S.meaning shelf.now).present end }
+    ensures { result ≡ count (absent (S.meaning shelf.now).present) end }
 {
     (0..end).filter(|member| !shelf.is_present(*member)).count() as u64
 }

@@ -1,7 +1,8 @@
 // Checkpoints.
-ghost use Rattle.std.specs.Prelude.{◌≡◌};
+ghost use Rattle.std.specs.Prelude.{◌≡◌, OnOk};
+ghost use Rattle.head.specs.Heads.{Fits};
 ghost use Rattle.stage.specs.Checkpoint.{Checkpointed};
-ghost use Rattle.stage.specs.Crew.{crew_of};
+ghost use Rattle.stage.specs.Arrays.{crew_of};
 
 use crate::array::Array;
 use answer::{Refusal, Refused};
@@ -20,6 +21,7 @@ impl<L: Layout> Array<L> {
         armed: Option<u64>,
     ) -> Result<(), Refused>
         ensures stage { Checkpointed (crew_of L.geometry self.old) source progress armed self.old.head self.new.head (S.meaning shelf.old) (S.meaning shelf.new) result }
+        ensures fits { OnOk result (Fits self.new.head) }
         ensures source { self.new.source ≡ self.old.source }
         ensures target { self.new.target ≡ self.old.target }
         ensures phase { self.new.phase ≡ self.old.phase }

@@ -1,10 +1,12 @@
 // Stages over every present member.
 ghost use Rattle.answer.specs.declared.Operation.TheVariants.{Read, Write, Flush};
-ghost use Rattle.head.specs.Heads.{head_bytes};
-ghost use Rattle.stage.specs.Crew.{crew_of};
-ghost use Rattle.stage.specs.Done.{FlushedAll, OnHeads, OnSector, ReadAny, Spread, WrittenAll};
-ghost use Rattle.stage.specs.Ends.{Stage};
-ghost use Rattle.stage.specs.May.{AtSector, nothing};
+ghost use Rattle.std.specs.Prelude.{OnOk};
+ghost use Rattle.head.specs.Heads.{Fits, head_bytes};
+ghost use Rattle.stage.specs.Arrays.{crew_of};
+ghost use Rattle.stage.specs.Done.{FlushedAll, ReadAny, Spread, WrittenAll};
+ghost use Rattle.model.specs.Faults.{OnHeads, OnSector};
+ghost use Rattle.model.specs.Ends.{Stage};
+ghost use Rattle.model.specs.May.{AtSector, nothing};
 
 use crate::array::Array;
 use answer::Refused;
@@ -16,7 +18,7 @@ use shelf::Shelf;
 impl<L: Layout> Array<L> {
     // Writes one content to a sector of every present member.
     // A loop of its own beside the flush's: a closure would have to say the plan and the fault of its operation again, in a clause longer than the loop.
-    pub fn write_all<S: Shelf>(
+    pub(crate) fn write_all<S: Shelf>(
         &self,
         shelf: &mut S,
         sector: u64,
@@ -30,8 +32,8 @@ impl<L: Layout> Array<L> {
         Ok(())
     }
 
-    // Settles what is current on every present member.
-    pub fn flush_all<S: Shelf>(&self, shelf: &mut S) -> Result<(), Refused>
+    // Persists what is current on every present member.
+    pub(crate) fn flush_all<S: Shelf>(&self, shelf: &mut S) -> Result<(), Refused>
         ensures { Stage (crew_of L.geometry self.now) nothing (OnSector Flush (S.meaning shelf.old) 0) (S.meaning shelf.old) (S.meaning shelf.new) (λ _. FlushedAll (S.meaning shelf.new)) result }
     {
         for member in 0..shelf.members() {
@@ -41,7 +43,11 @@ impl<L: Layout> Array<L> {
     }
 
     // A sector that every member holds, from the lowest one that answers; None where none is there.
-    pub fn read_any<S: Shelf>(&self, shelf: &mut S, sector: u64) -> Result<Option<Sector>, Refused>
+    pub(crate) fn read_any<S: Shelf>(
+        &self,
+        shelf: &mut S,
+        sector: u64,
+    ) -> Result<Option<Sector>, Refused>
         ensures { Stage (crew_of L.geometry self.now) nothing (OnSector Read (S.meaning shelf.old) sector) (S.meaning shelf.old) (S.meaning shelf.new) (λ found. ReadAny sector (S.meaning shelf.new) found) result }
     {
         for member in 0..shelf.members() {
@@ -54,7 +60,8 @@ impl<L: Layout> Array<L> {
 
     // Makes a head the last one on every present member.
     pub fn spread<S: Shelf>(&self, shelf: &mut S, head: &Head) -> Result<(), Refused>
-        ensures { Stage (crew_of L.geometry self.now) (AtSector 0 (head_bytes head.now)) (OnHeads (S.meaning shelf.old)) (S.meaning shelf.old) (S.meaning shelf.new) (λ _. Spread 0 (head_bytes head.now) (S.meaning shelf.new)) result }
+        ensures stage { Stage (crew_of L.geometry self.now) (AtSector 0 (head_bytes head.now)) (OnHeads (S.meaning shelf.old)) (S.meaning shelf.old) (S.meaning shelf.new) (λ _. Spread 0 (head_bytes head.now) (S.meaning shelf.new)) result }
+        ensures fits { OnOk result (Fits head.now) }
     {
         self.write_all(shelf, HEAD_AT, &head.encode())?;
         self.flush_all(shelf)

@@ -1,6 +1,6 @@
 // The heads on a shelf's members, and the one that leads. Members that are found absent are judged by the caller.
 ghost use Rattle.stage.specs.Cells.{Others};
-ghost use Rattle.stage.specs.Heads.{FoundHead, ReadHead};
+ghost use Rattle.model.specs.Heads.{FoundHead, ReadHead};
 
 use crate::operation;
 use answer::{Fault, Operation, Refusal, Refused};

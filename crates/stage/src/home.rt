@@ -1,11 +1,13 @@
 // Where the sectors of a volume live.
-ghost use Rattle.std.specs.Prelude.{◌≡◌, ◌+◌, ◌%◌};
+ghost use Rattle.std.specs.Prelude.{◌≡◌, ◌+◌, ◌%◌, MatchOption};
+ghost use Rattle.overlap.specs.declared.walk.Home.TheVariants.{Backup};
+ghost use Rattle.stage.specs.Looks.{InLayout, homes_of};
 ghost use Rattle.stage.specs.Walks.{WalkOf};
 
 use crate::array::Array;
-use crate::phase::Phase;
 use head::SLOTS_AT;
 use layout::Layout;
+use model::phase::Phase;
 use overlap::walk::{Home, Walk};
 
 impl<L: Layout> Array<L> {
@@ -20,7 +22,9 @@ impl<L: Layout> Array<L> {
     }
 
     // Where a sector lives.
-    fn home(&self, sector: u64) -> Home {
+    fn home(&self, sector: u64) -> Home
+        ensures { result ≡ homes_of L.geometry self.now sector }
+    {
         match self.phase {
             Phase::Moving => self.walk().home(sector),
             Phase::After => Home::Target,
@@ -29,7 +33,9 @@ impl<L: Layout> Array<L> {
     }
 
     // The layout that has a sector's home; None where a backup slot is.
-    pub(crate) fn home_layout(&self, sector: u64) -> Option<&L> {
+    pub(crate) fn home_layout(&self, sector: u64) -> Option<&L>
+        ensures { let h = homes_of L.geometry self.now sector in MatchOption result (h ≡ Backup) (λ layout. InLayout h (L.geometry self.now.source) (L.geometry self.now.target) (L.geometry layout.now)) }
+    {
         match self.home(sector) {
             Home::Source => Some(&self.source),
             Home::Target => Some(&self.target),

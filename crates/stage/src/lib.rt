@@ -12,5 +12,4 @@ mod home;
 pub mod logged;
 mod member;
 mod operation;
-pub mod phase;
 mod rows;

@@ -1,10 +1,11 @@
 // One operation on one member, as a step of a stage. It ends the call where the power is gone or too few members are left.
 ghost use Rattle.answer.specs.declared.Operation.TheVariants.{Read, Write, Flush};
 ghost use Rattle.stage.specs.Cells.{Others};
-ghost use Rattle.stage.specs.Crew.{crew_of};
-ghost use Rattle.stage.specs.Done.{FlushedAt, OnCell, ReadAt, Weighed, WrittenAt};
-ghost use Rattle.stage.specs.Ends.{Stage};
-ghost use Rattle.stage.specs.May.{AtCell, nothing};
+ghost use Rattle.stage.specs.Arrays.{crew_of};
+ghost use Rattle.stage.specs.Done.{FlushedAt, ReadAt, Weighed, WrittenAt};
+ghost use Rattle.model.specs.Faults.{OnCell};
+ghost use Rattle.model.specs.Ends.{Stage};
+ghost use Rattle.model.specs.May.{AtCell, nothing};
 
 use crate::array::Array;
 use crate::operation;
@@ -27,7 +28,7 @@ impl<L: Layout> Array<L> {
     }
 
     // Writes a sector of a member, if it is present.
-    pub fn write_at<S: Shelf>(
+    pub(crate) fn write_at<S: Shelf>(
         &self,
         shelf: &mut S,
         member: u64,
@@ -45,7 +46,7 @@ impl<L: Layout> Array<L> {
     }
 
     // What a member holds in a sector; None where it is not present.
-    pub fn read_at<S: Shelf>(
+    pub(crate) fn read_at<S: Shelf>(
         &self,
         shelf: &mut S,
         member: u64,
@@ -64,7 +65,7 @@ impl<L: Layout> Array<L> {
     }
 
     // Flushes a member, if it is present.
-    pub fn flush_at<S: Shelf>(&self, shelf: &mut S, member: u64) -> Result<(), Refused>
+    pub(crate) fn flush_at<S: Shelf>(&self, shelf: &mut S, member: u64) -> Result<(), Refused>
         ensures stage { Stage (crew_of L.geometry self.now) nothing (OnCell Flush (S.meaning shelf.old) member 0) (S.meaning shelf.old) (S.meaning shelf.new) (λ _. FlushedAt member (S.meaning shelf.new)) result }
         ensures others { Others member (S.meaning shelf.old) (S.meaning shelf.new) }
     {

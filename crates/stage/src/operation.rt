@@ -1,5 +1,5 @@
 // One operation on one member, told by its answer. Each hands one call on, and its clause says in the stages' own words what an operation does.
-ghost use Rattle.stage.specs.Cells.{GotAt, PutAt, SettledAt};
+ghost use Rattle.stage.specs.Cells.{GotAt, PutAt, FlushedBy};
 
 use sector::Sector;
 use shelf::{Answer, Shelf};
@@ -17,7 +17,7 @@ pub(crate) fn get<S: Shelf>(shelf: &mut S, member: u64, sector: u64, content: &m
 }
 
 pub(crate) fn flush<S: Shelf>(shelf: &mut S, member: u64) -> Answer
-    ensures { SettledAt member (S.meaning shelf.old) (S.meaning shelf.new) result }
+    ensures { FlushedBy member (S.meaning shelf.old) (S.meaning shelf.new) result }
 {
     shelf.flush(member)
 }

@@ -1,16 +1,25 @@
-use Rattle.std.proofs.Common.{arith, inl, inr, rules, subst, sym}
-use Rattle.stage.specs.May.{May, EitherPlan, OneFrom}
-use Rattle.stage.proofs.Chains.{stage_may}
-use Rattle.stage.proofs.Mays.{may_then, may_wider, quiet}
+use Rattle.std.proofs.Common.{refl}
+use Rattle.answer.specs.declared.Operation.TheVariants.{Flush}
+use Rattle.model.specs.May.{EitherPlan, OneFrom, nothing}
+use Rattle.stage.specs.Arrays.{crew_of}
+use Rattle.stage.specs.Endings.{StageEnds}
+use Rattle.stage.proofs.Chains.{handed_on}
+use Rattle.stage.proofs.Endings.{Going, ends_after, no_plan, on_sector, stage_ends}
 use Rattle.stage.proofs.array.Array.apply.Goals as goal
-use Rattle.stage.proofs.array.Array.apply.Goals.{in-Some+in_ok-write_places-in-Some, in-None+in_ok-write_all-in-None}
+
+pub returns-in_err-write_home : goal.returns-in_err-write_home
+returns-in_err-write_home g c =
+    let w = crew_of g.L.Layout.geometry c.args.self.now in
+    let P = EitherPlan (OneFrom 3 c.args.entry.datum.now) (OneFrom 3 c.args.entry.parity.now) in
+    handed_on (λ r. StageEnds w P (g.S.Shelf.meaning c.args.shelf.now) (g.S.Shelf.meaning c.write_home.new.shelf) r) c.from_residual.result _ c.from_residual.ensures.1 c.in_err-write_home.ensures
 
 pub returns : goal.returns
 returns g c =
+    let w = crew_of g.L.Layout.geometry c.args.self.now in
     let P = EitherPlan (OneFrom 3 c.args.entry.datum.now) (OneFrom 3 c.args.entry.parity.now) in
-    let so : May P (g.S.Shelf.meaning c.args.shelf.now) (g.S.Shelf.meaning c.match-home_layout.shelf) =
-    elim c.match-home_layout.branch [
-      | in-Some+in_ok-write_places-in-Some w ↦ subst (λ x. May P (g.S.Shelf.meaning c.args.shelf.now) (g.S.Shelf.meaning x)) (sym w.shelf-is) (may_wider (λ k s x p. search rules) w.write_places.ensures)
-      | in-None+in_ok-write_all-in-None w ↦ subst (λ x. May P (g.S.Shelf.meaning c.args.shelf.now) (g.S.Shelf.meaning x)) (sym w.shelf-is) (may_wider (λ k s x p. search rules) (stage_may _ _ _ w.write_all.result w.write_all.ensures))
-    ] in
-    may_then so (quiet (stage_may _ _ _ c.flush_all.result c.flush_all.ensures))
+    let a = g.S.Shelf.meaning c.args.shelf.now in
+    let b = g.S.Shelf.meaning c.write_home.new.shelf in
+    let d = g.S.Shelf.meaning c.flush_all.new.shelf in
+    let s = c.in_ok-write_home.ensures in
+    let so : Going w P a b = record { may = s.0; goes = s.1 } in
+    ends_after d so c.flush_all.result (stage_ends w P nothing _ b d _ (no_plan P) (on_sector Flush refl b 0) c.flush_all.result c.flush_all.ensures)

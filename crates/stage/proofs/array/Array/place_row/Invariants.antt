@@ -1,9 +1,11 @@
 use Rattle.std.proofs.Common.{◌+◌}
-use Rattle.stage.specs.May.{From, May}
+use Rattle.model.specs.Ends.{GoesOn}
+use Rattle.model.specs.May.{From, May}
+use Rattle.stage.specs.Arrays.{crew_of}
+use Rattle.stage.specs.Endings.{HasVolume}
 use Rattle.stage.proofs.array.Array.place_row.Given as goal
 
 abbrev pub invariant-loop-sector : goal.invariant-loop-sector
 invariant-loop-sector g l =
-    (goal.iterator-loop-sector g).can_next l.sector-iterator ×
-    (goal.iterator-loop-sector g).is_finite l.sector-iterator ×
-    May (From (3 + l.self.head.backup)) (g.S.Shelf.meaning l.initial.shelf) (g.S.Shelf.meaning l.shelf)
+    May (From (3 + l.self.head.backup)) (g.S.Shelf.meaning l.initial.shelf) (g.S.Shelf.meaning l.shelf) ×
+    (HasVolume g.L.Layout.geometry l.self (g.S.Shelf.meaning l.initial.shelf) → GoesOn (crew_of g.L.Layout.geometry l.self) (g.S.Shelf.meaning l.initial.shelf) (g.S.Shelf.meaning l.shelf))

@@ -1,5 +1,5 @@
-use Rattle.stage.specs.Crew.{crew_of}
-use Rattle.stage.specs.May.{nothing}
+use Rattle.stage.specs.Arrays.{crew_of}
+use Rattle.model.specs.May.{nothing}
 use Rattle.stage.proofs.Loops.{Nobody, Upto}
 use Rattle.stage.proofs.array.Array.read_any.Given as goal
 
