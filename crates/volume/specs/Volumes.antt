@@ -1,9 +1,28 @@
 -- What clauses read of a volume.
-use Rattle.std.specs.Prelude.{◌≡◌, ℕ, Option}
-use Rattle.layout.specs.Geometry.{Geometry}
+use Rattle.std.specs.Prelude.{◌≡◌, ℕ, ◌<◌, ◌≤◌, [], Some, None, Ok, Err, OnOk, Option, Result}
+use Rattle.answer.specs.Faults.{in_row}
+use Rattle.answer.specs.declared.Refusal.{Refusal}
+use Rattle.answer.specs.declared.Refused.{Refused}
+use Rattle.head.specs.Heads.{Fits}
+use Rattle.head.specs.declared.state.Head.{Head}
+use Rattle.head.specs.declared.state.Progress.{Progress}
+use Rattle.layout.specs.Geometry.{Geometry, capacity}
+use Rattle.layout.specs.declared.label.Label.{Label}
 use Rattle.overlap.specs.Needs.{distance_of}
-use Rattle.stage.specs.declared.phase.Phase.{Phase}
-use Rattle.model.specs.Knowing.{Volume as Known, volume_on}
+use Rattle.shelf.specs.Meaning.{Meaning}
+use Rattle.model.specs.Answers.{Ended, HeadLeft}
+use Rattle.model.specs.Effects.{HeadAfter, Rearmed, known_after}
+use Rattle.model.specs.Ends.{Met}
+use Rattle.model.specs.Handed.{Handed}
+use Rattle.model.specs.Knowing.{Volume as Known}
+use Rattle.model.specs.Readable.{Room}
+use Rattle.model.specs.declared.phase.Phase.{Phase}
+use Rattle.model.specs.declared.phase.Phase.TheVariants.{Before, Moving, After, Shut}
+use Rattle.model.specs.declared.request.Request.{Request}
+use Rattle.model.specs.declared.request.Request.TheVariants.{Keep, Write}
+use Rattle.stage.specs.Arrays.{crew_of, volume_on}
+use Rattle.stage.specs.Checkpoint.{Checkpointed}
+use Rattle.stage.specs.Endings.{OnMember}
 use Rattle.volume.specs.declared.Volume.{Volume}
 use Rattle.volume.specs.declared.grant.Grant.{Grant}
 
@@ -41,5 +60,76 @@ pub record OnlyShelf {S L : Type 0} (a b : Volume S L) : Type 0 where
   pub array : b.array ≡ a.array
   pub hand : b.hand ≡ a.hand
 
-abbrev pub row_of : Grant → ℕ
-row_of g = g.row
+abbrev pub granted_row : Grant → ℕ
+granted_row g = g.row
+
+-- the last checkpoint's head
+abbrev pub head_of : {S L : Type 0} → Volume S L → Head
+head_of v = v.array.head
+
+-- How a call of v ended that left w, by its verdict, both ways: `same` says that all is as it was, `out` what an answer hands out.
+abbrev pub CallEnds : {S L A : Type 0} → (S → Meaning) → (L → Geometry) → (L → Label) → Option Refusal → (A → Handed) → Request → (same : Type 0)
+    → (v w : Volume S L) → Result A Refused → Type 0
+CallEnds mean place name verdict out r same v w result =
+    Ended verdict same out r (name (target_of v)) (known place v) (head_of v) (mean (shelf_of v)) (known place w) (head_of w) (mean (shelf_of w)) result
+
+-- a checkpoint of v that left w, of which nothing changed but the head and the shelf
+pub record CheckpointOf {S L : Type 0} (mean : S → Meaning) (place : L → Geometry) (label : Label) (progress : Progress) (armed : Option ℕ) (v w : Volume S L)
+    (result : Result Unit Refused) : Type 0 where
+  pub stage : Checkpointed (crew_of place v.array) label progress armed v.array.head w.array.head (mean v.shelf) (mean w.shelf) result
+  pub fits : OnOk result (Fits w.array.head)
+  pub source : w.array.source ≡ v.array.source
+  pub target : w.array.target ≡ v.array.target
+  pub phase : w.array.phase ≡ v.array.phase
+  pub hand : w.hand ≡ v.hand
+
+-- a layout has room on the shelf, and the volume in it
+pub record HasRoom (v : Known) (a : Meaning) (g : Geometry) : Type 0 where
+  pub room : Room a.members a.sectors v.backup g
+  pub holds : v.size ≤ capacity g
+
+-- the row in hand is the first that is not settled
+abbrev pub IsNext : Option ℕ → (settled rows : ℕ) → Type 0
+IsNext None settled rows = settled ≤ rows
+IsNext (Some row) settled rows = (row ≡ settled) × (settled < rows)
+
+abbrev pub HousedIn : Phase → Known → Meaning → Type 0
+HousedIn Before v a = HasRoom v a v.crew.source × (v.hand ≡ None)
+HousedIn Moving v a = HasRoom v a v.crew.source × HasRoom v a v.crew.target × IsNext v.hand v.settled v.crew.target.rows
+HousedIn After v a = HasRoom v a v.crew.target
+HousedIn (Shut why) v a = Unit {0}
+
+-- The layouts in force have room, and no more rows are settled than there are. Create and open see to it, and each call keeps it.
+abbrev pub Housed : Known → Meaning → Type 0
+Housed v a = HousedIn v.crew.phase v a
+
+abbrev pub StaysHoused : {S L : Type 0} → (S → Meaning) → (L → Geometry) → (v w : Volume S L) → Type 0
+StaysHoused mean place v w = Housed (known place v) (mean (shelf_of v)) → Housed (known place w) (mean (shelf_of w))
+
+-- what was met in a call about this row
+abbrev pub rowed : ℕ → Result Unit Refused → Result Unit Refused
+rowed row (Ok x) = Ok x
+rowed row (Err e) = Err (in_row e row)
+
+-- the same volume, on a shelf as large, but for its head's number and what that is armed for
+pub record Alike {S L : Type 0} (mean : S → Meaning) (v w : Volume S L) : Type 0 where
+  pub source : w.array.source ≡ v.array.source
+  pub target : w.array.target ≡ v.array.target
+  pub phase : w.array.phase ≡ v.array.phase
+  pub hand : w.hand ≡ v.hand
+  pub progress : w.array.head.progress ≡ v.array.head.progress
+  pub size : w.array.head.size ≡ v.array.head.size
+  pub backup : w.array.head.backup ≡ v.array.head.backup
+  pub members : (mean w.shelf).members ≡ (mean v.shelf).members
+  pub sectors : (mean w.shelf).sectors ≡ (mean v.shelf).sectors
+
+-- a write of sector i that was carried out, or met
+abbrev pub Carried : {S L : Type 0} → (S → Meaning) → (L → Geometry) → ℕ → (v w : Volume S L) → Result Unit Refused → Type 0
+Carried mean place i v w (Ok x) = Rearmed i v.array.head w.array.head
+Carried mean place i v w (Err e) = HeadLeft (Write i []) v.array.head w.array.head × Met (crew_of place v.array) (OnMember (mean v.shelf)) (mean w.shelf) e
+
+-- The next source row was kept, or this was met: nothing has changed but the head.
+abbrev pub KeepEnds : {S L : Type 0} → (S → Meaning) → (L → Geometry) → (L → Label) → (v w : Volume S L) → Result Unit Refused → Type 0
+KeepEnds mean place name v w (Ok x) = HeadAfter Keep (known place v) (name v.array.target) v.array.head w.array.head × (known place w ≡ known_after Keep (known place v) w.array.head)
+KeepEnds mean place name v w (Err e) =
+    (w.array.head ≡ v.array.head) × Met (crew_of place v.array) (OnMember (mean v.shelf)) (mean w.shelf) e × (known place w ≡ known place v)

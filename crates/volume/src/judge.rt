@@ -1,29 +1,34 @@
 // What is judged before the first operation of a call, in the order in which several refusals are told.
-ghost use Rattle.std.specs.Prelude.{◌≡◌, ◌≤◌, IfOk, if◌then◌else◌, Some, None, OnOk};
+ghost use Rattle.std.specs.Prelude.{◌≡◌, ◌+◌, ◌*◌, ◌<◌, ◌≤◌, IfOk, if◌then◌else◌, Some, None, OnOk, true};
 ghost use Rattle.answer.specs.declared.Refusal.TheVariants.{NumbersSpent};
-ghost use Rattle.model.specs.Opening.{head_fits, head_verdict, logged_fits, names_layouts_lem, names_target_lem, progress_borne, progress_fits, walk_fits};
-ghost use Rattle.model.specs.Verdicts.{Judged, access_verdict, admission, begin_verdict, copy_verdict, create_verdict, finish_verdict, fits as room, in_limits, keep_verdict, read_verdict, settle_verdict, spent, write_verdict};
-ghost use Rattle.volume.specs.Volumes.{distance_in, known, shelf_of, source_of, target_of};
+ghost use Rattle.head.specs.declared.TheConstants.{MOST_NUMBER};
+ghost use Rattle.model.specs.Crew.{crew, enough};
+ghost use Rattle.model.specs.declared.phase.Phase.TheVariants.{Before, Moving};
+ghost use Rattle.model.specs.Knowing.{phase_by};
+ghost use Rattle.model.specs.Opening.{head_fits, head_verdict, layouts_named, logged_fits, progress_fits, target_named, walk_fits};
+ghost use Rattle.model.specs.Verdicts.{Judged, access_verdict, admission, begin_verdict, copy_verdict, create_verdict, finish_verdict, fits as room, is_hand, shelf_in_limits, keep_verdict, read_verdict, settle_verdict, spent, write_verdict};
+ghost use Rattle.volume.specs.Volumes.{HasRoom, distance_in, hand_of, head_of, known, phase_of, shelf_of, source_of, target_of};
 
 use crate::Volume;
 use answer::Refusal;
 use head::{Head, MOST_BACKUP, Progress, SLOTS_AT};
 use layout::{Layout, has_true_label};
 use model::call::Call;
+use model::phase::Phase;
 use overlap::walk::Walk;
 use overlap::{distance, need};
 use sector::SECTOR;
-use shelf::{LEAST_MEMBERS, MOST_MEMBERS, MOST_SECTORS, Shelf};
+use sector::limits::{FEWEST_MEMBERS, MOST_MEMBERS};
+use shelf::{MOST_SECTORS, Shelf};
 use stage::array::bears;
-use stage::phase::Phase;
 
 // Whether a shelf is in its limits.
 fn is_in_limits<S: Shelf>(shelf: &S) -> bool
-    ensures { result ≡ in_limits (S.meaning shelf.now) }
+    ensures { result ≡ shelf_in_limits (S.meaning shelf.now) }
 {
     let members = shelf.members();
     let sectors = shelf.sectors();
-    (LEAST_MEMBERS..=MOST_MEMBERS).contains(&members) && (1..=MOST_SECTORS).contains(&sectors)
+    (FEWEST_MEMBERS..=MOST_MEMBERS).contains(&members) && (1..=MOST_SECTORS).contains(&sectors)
 }
 
 // Whether a layout, the slots before it and a volume of this size fit the shelf. Slots and size are two numbers: create has no head yet
@@ -40,7 +45,8 @@ pub fn fits<S: Shelf, L: Layout>(shelf: &S, layout: &L, backup: u32, size: u64) 
 impl<S: Shelf, L: Layout> Volume<S, L> {
     // Power, members, and whether the call is one for the phase.
     fn admit(&self, call: Call) -> Result<(), Refusal>
-        ensures { Judged (admission call (known L.geometry self.now) (S.meaning (shelf_of self.now))) result }
+        ensures verdict { Judged (admission call (known L.geometry self.now) (S.meaning (shelf_of self.now))) result }
+        ensures enough { OnOk result (enough (known L.geometry self.now).crew (S.meaning (shelf_of self.now)) ≡ true) }
     {
         if let Phase::Shut(refusal) = self.array.phase {
             return Err(refusal);
@@ -55,7 +61,7 @@ impl<S: Shelf, L: Layout> Volume<S, L> {
         if matches!(call, Call::Begin) && !bears(&self.shelf, &self.array.target) {
             return Err(Refusal::MembersLost);
         }
-        // which calls a phase has is one table; a closure for each call would be no plainer
+        // which calls a phase has, as one table
         match (self.array.phase, call) {
             (_, Call::Read | Call::Write) => Ok(()),
             (Phase::Before, Call::Begin) => Ok(()),
@@ -66,7 +72,8 @@ impl<S: Shelf, L: Layout> Volume<S, L> {
 
     // Whether so many checkpoints can still be numbered.
     fn numbered(&self, checkpoints: u64) -> Result<(), Refusal>
-        ensures { Judged (if spent (known L.geometry self.now) checkpoints then Some NumbersSpent else None) result }
+        ensures verdict { Judged (if spent (known L.geometry self.now) checkpoints then Some NumbersSpent else None) result }
+        ensures left { OnOk result ((head_of self.now).number + checkpoints ≤ MOST_NUMBER) }
     {
         if self.array.head.numbers_left() < checkpoints {
             return Err(Refusal::NumbersSpent);
@@ -76,7 +83,8 @@ impl<S: Shelf, L: Layout> Volume<S, L> {
 
     pub(crate) fn judge_create(&self, backup: u32, size: u64) -> Result<(), Refusal>
         ensures verdict { Judged (create_verdict (L.named (source_of self.now)) (L.geometry (source_of self.now)) (S.meaning (shelf_of self.now)) backup size) result }
-        ensures slots { OnOk result ((1 ≤ backup) × (backup ≤ 4096)) }
+        ensures slots { OnOk result ((1 ≤ backup) × (backup ≤ MOST_BACKUP)) }
+        ensures room { OnOk result (room (S.meaning (shelf_of self.now)) (L.geometry (source_of self.now)) backup size ≡ true) }
     {
         let source = &self.array.source;
         if !(1..=MOST_BACKUP).contains(&backup)
@@ -98,6 +106,7 @@ impl<S: Shelf, L: Layout> Volume<S, L> {
     fn judge_access(&self, sector: u64, length: usize) -> Result<(), Refusal>
         ensures verdict { Judged (access_verdict (known L.geometry self.now) sector length) result }
         ensures long { OnOk result (length ≡ 512) }
+        ensures below { OnOk result (sector < (known L.geometry self.now).size) }
     {
         if length != SECTOR {
             return Err(Refusal::BufferLength);
@@ -111,13 +120,19 @@ impl<S: Shelf, L: Layout> Volume<S, L> {
     pub(crate) fn judge_read(&self, sector: u64, length: usize) -> Result<(), Refusal>
         ensures verdict { Judged (read_verdict (known L.geometry self.now) (S.meaning (shelf_of self.now)) sector length) result }
         ensures long { OnOk result (length ≡ 512) }
+        ensures enough { OnOk result (enough (known L.geometry self.now).crew (S.meaning (shelf_of self.now)) ≡ true) }
+        ensures below { OnOk result (sector < (known L.geometry self.now).size) }
     {
         self.admit(Call::Read)?;
         self.judge_access(sector, length)
     }
 
     pub(crate) fn judge_write(&self, sector: u64, length: usize) -> Result<(), Refusal>
-        ensures { Judged (write_verdict (known L.geometry self.now) (S.meaning (shelf_of self.now)) sector length) result }
+        ensures verdict { Judged (write_verdict (known L.geometry self.now) (S.meaning (shelf_of self.now)) sector length) result }
+        ensures long { OnOk result (length ≡ 512) }
+        ensures enough { OnOk result (enough (known L.geometry self.now).crew (S.meaning (shelf_of self.now)) ≡ true) }
+        ensures below { OnOk result (sector < (known L.geometry self.now).size) }
+        ensures left { OnOk result ((head_of self.now).number + 2 ≤ MOST_NUMBER) }
     {
         self.admit(Call::Write)?;
         self.judge_access(sector, length)?;
@@ -131,6 +146,9 @@ impl<S: Shelf, L: Layout> Volume<S, L> {
     pub(crate) fn judge_begin(&self) -> Result<u64, Refusal>
         ensures verdict { Judged (begin_verdict (L.named (target_of self.now)) (known L.geometry self.now) (S.meaning (shelf_of self.now))) result }
         ensures distance { IfOk result (λ d. d ≡ distance_in (known L.geometry self.now)) }
+        ensures before { OnOk result (phase_of self.now ≡ Before) }
+        ensures room { OnOk result (HasRoom (known L.geometry self.now) (S.meaning (shelf_of self.now)) (L.geometry (target_of self.now))) }
+        ensures left { OnOk result ((head_of self.now).number < MOST_NUMBER) }
     {
         self.admit(Call::Begin)?;
         let head = &self.array.head;
@@ -147,7 +165,10 @@ impl<S: Shelf, L: Layout> Volume<S, L> {
     }
 
     pub(crate) fn judge_keep(&self) -> Result<(), Refusal>
-        ensures { Judged (keep_verdict (known L.geometry self.now) (S.meaning (shelf_of self.now))) result }
+        ensures verdict { Judged (keep_verdict (known L.geometry self.now) (S.meaning (shelf_of self.now))) result }
+        ensures enough { OnOk result (enough (known L.geometry self.now).crew (S.meaning (shelf_of self.now)) ≡ true) }
+        ensures live { OnOk result ((known L.geometry self.now).kept * (L.geometry (source_of self.now)).row_len < (known L.geometry self.now).size) }
+        ensures left { OnOk result ((head_of self.now).number < MOST_NUMBER) }
     {
         self.admit(Call::Keep)?;
         let walk = self.array.walk();
@@ -161,7 +182,10 @@ impl<S: Shelf, L: Layout> Volume<S, L> {
     }
 
     pub(crate) fn judge_copy(&self) -> Result<(), Refusal>
-        ensures { Judged (copy_verdict (known L.geometry self.now) (S.meaning (shelf_of self.now))) result }
+        ensures verdict { Judged (copy_verdict (known L.geometry self.now) (S.meaning (shelf_of self.now))) result }
+        ensures enough { OnOk result (enough (known L.geometry self.now).crew (S.meaning (shelf_of self.now)) ≡ true) }
+        ensures moving { OnOk result (phase_of self.now ≡ Moving) }
+        ensures below { OnOk result ((known L.geometry self.now).settled < (L.geometry (target_of self.now)).rows) }
     {
         self.admit(Call::Copy)?;
         if self.hand.is_some() {
@@ -184,7 +208,10 @@ impl<S: Shelf, L: Layout> Volume<S, L> {
     }
 
     pub(crate) fn judge_settle(&self, row: u64) -> Result<(), Refusal>
-        ensures { Judged (settle_verdict (known L.geometry self.now) (S.meaning (shelf_of self.now)) row) result }
+        ensures verdict { Judged (settle_verdict (known L.geometry self.now) (S.meaning (shelf_of self.now)) row) result }
+        ensures hand { OnOk result (is_hand (hand_of self.now) row ≡ true) }
+        ensures moving { OnOk result (phase_of self.now ≡ Moving) }
+        ensures left { OnOk result ((head_of self.now).number < MOST_NUMBER) }
     {
         self.admit(Call::Settle)?;
         if self.hand != Some(row) {
@@ -194,7 +221,9 @@ impl<S: Shelf, L: Layout> Volume<S, L> {
     }
 
     pub(crate) fn judge_finish(&self) -> Result<(), Refusal>
-        ensures { Judged (finish_verdict (known L.geometry self.now) (S.meaning (shelf_of self.now))) result }
+        ensures verdict { Judged (finish_verdict (known L.geometry self.now) (S.meaning (shelf_of self.now))) result }
+        ensures moving { OnOk result (phase_of self.now ≡ Moving) }
+        ensures left { OnOk result ((head_of self.now).number < MOST_NUMBER) }
     {
         self.admit(Call::Finish)?;
         if self.array.walk().settled < self.array.target.rows() {
@@ -205,7 +234,8 @@ impl<S: Shelf, L: Layout> Volume<S, L> {
 
     // Whether a head that was found can be opened on this shelf with these layouts.
     pub(crate) fn judge_head(&self, head: &Head) -> Result<(), Refusal>
-        ensures { Judged (head_verdict head.now (S.meaning (shelf_of self.now)) (L.named (source_of self.now)) (L.named (target_of self.now)) (L.geometry (source_of self.now)) (L.geometry (target_of self.now))) result }
+        ensures fits { OnOk result (head_fits head.now (S.meaning (shelf_of self.now)) (L.geometry (source_of self.now)) (L.geometry (target_of self.now)) ≡ true) }
+        ensures verdict { Judged (head_verdict head.now (S.meaning (shelf_of self.now)) (L.named (source_of self.now)) (L.named (target_of self.now)) (L.geometry (source_of self.now)) (L.geometry (target_of self.now))) result }
     {
         if !self.names_layouts(head) {
             return Err(Refusal::LabelsDiffer);
@@ -223,14 +253,14 @@ impl<S: Shelf, L: Layout> Volume<S, L> {
     }
 
     fn names_layouts(&self, head: &Head) -> bool
-        ensures { result ≡ names_layouts_lem head.now (L.named (source_of self.now)) (L.named (target_of self.now)) }
+        ensures { result ≡ layouts_named head.now (L.named (source_of self.now)) (L.named (target_of self.now)) }
     {
         head.source == self.array.source.label() && self.names_target(head.progress)
     }
 
     // An idle head names the source only.
     fn names_target(&self, progress: Progress) -> bool
-        ensures { result ≡ names_target_lem progress (L.named (target_of self.now)) }
+        ensures { result ≡ target_named progress (L.named (target_of self.now)) }
     {
         match progress {
             Progress::Idle => true,
@@ -270,7 +300,7 @@ impl<S: Shelf, L: Layout> Volume<S, L> {
 
     // Whether the layouts that a head has in force bear the losses.
     fn bears_losses(&self, progress: Progress) -> bool
-        ensures { result ≡ progress_borne progress (S.meaning (shelf_of self.now)) (L.geometry (source_of self.now)) (L.geometry (target_of self.now)) }
+        ensures { result ≡ enough (crew (phase_by progress) (L.geometry (source_of self.now)) (L.geometry (target_of self.now))) (S.meaning (shelf_of self.now)) }
     {
         match progress {
             Progress::Idle => bears(&self.shelf, &self.array.source),

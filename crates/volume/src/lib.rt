@@ -2,13 +2,20 @@
 // docs/CALLS.md has the calls and their refusals, docs/MOVE.md the move.
 #![tactic(auto)]
 
-ghost use Rattle.std.specs.Prelude.{◌≡◌, ◌+◌, ◌≤◌, length, IfOk, None, OnErr, OnOk};
-ghost use Rattle.head.specs.declared.state.Progress.TheVariants.{Idle};
-ghost use Rattle.stage.specs.declared.phase.Phase.TheVariants.{Before};
-ghost use Rattle.stage.specs.May.{From, May, nothing};
+ghost use Rattle.std.specs.Prelude.{◌≡◌, ◌+◌, ◌*◌, ◌<◌, ◌≤◌, None, length, IfOk, OnErr, OnOk};
+ghost use Rattle.head.specs.declared.TheConstants.{MOST_NUMBER};
+ghost use Rattle.head.specs.Heads.{kept_rows, settled_rows};
+ghost use Rattle.head.specs.declared.state.Progress.TheVariants.{Moving as UnderWay};
+ghost use Rattle.model.specs.Handed.Handed.{Counts, Distance, Nothing, Row};
+ghost use Rattle.model.specs.declared.request.Request.TheVariants.{Begin, Copy, Finish, HandBack, Keep, Read, Settle, Write};
+ghost use Rattle.model.specs.declared.phase.Phase.TheVariants.{Before};
+ghost use Rattle.model.specs.May.{From, May, nothing};
+ghost use Rattle.model.specs.Effects.{First};
+ghost use Rattle.model.specs.Knowing.{phase_by};
 ghost use Rattle.model.specs.Opening.{OpensBy, Restarted};
-ghost use Rattle.model.specs.Verdicts.{HandedBack, InUse, RefusedBy, ShutBy, ShutsBy, begin_verdict, copy_verdict, create_verdict, emptied, finish_verdict, is_hand, keep_verdict, read_verdict, settle_verdict, write_verdict};
-ghost use Rattle.volume.specs.Volumes.{OnlyHand, OnlyShelf, distance_in, hand_of, known, phase_of, row_of, shelf_of, source_of, target_of};
+ghost use Rattle.model.specs.Verdicts.{NotShut, RefusedBy, ShutBy, ShutsBy, begin_verdict, copy_verdict, create_verdict, emptied, finish_verdict, hand_back_verdict, is_hand, keep_verdict, read_verdict, settle_verdict, write_verdict};
+ghost use Rattle.stage.specs.Endings.{HasVolume};
+ghost use Rattle.volume.specs.Volumes.{Alike, CallEnds, Carried, CheckpointOf, Housed, KeepEnds, OnlyHand, OnlyShelf, StaysHoused, distance_in, hand_of, known, phase_of, granted_row, rowed, shelf_of, source_of, target_of};
 
 pub mod grant;
 mod judge;
@@ -16,15 +23,16 @@ pub mod phase;
 
 use answer::{Fault, Operation, Refusal, Refused};
 use grant::Grant;
-use head::{HEAD_AT, Head, Progress};
+use head::{HEAD_AT, Head, MOST_BACKUP, Progress};
 use layout::Layout;
 use layout::label::Label;
+use model::phase::Phase;
 use sector::Sector;
 use shelf::Shelf;
+use shelf::controlled::Controlled;
 use stage::array::Array;
 use stage::heads::leading_head;
 use stage::logged::Entry;
-use stage::phase::Phase;
 
 // A shelf with the arrays on it. The row in hand is the one that was copied and is not settled or handed back yet.
 #[derive(Drop)]
@@ -53,6 +61,7 @@ impl<S: Shelf, L: Layout> Volume<S, L> {
     ) -> (Volume<S, L>, Result<(), Refused>)
         ensures verdict { RefusedBy (create_verdict (L.named source) (L.geometry source) (S.meaning shelf) backup size) (shelf_of result.0 ≡ shelf) result.1 }
         ensures shut { ShutBy (phase_of result.0) result.1 }
+        ensures housed { OnOk result.1 (Housed (known L.geometry result.0) (S.meaning (shelf_of result.0))) }
     {
         let mut volume = Volume::unopened(shelf, source, target);
         let result = volume.lay_out(backup, size);
@@ -64,6 +73,7 @@ impl<S: Shelf, L: Layout> Volume<S, L> {
     pub fn open(shelf: S, source: L, target: L) -> (Volume<S, L>, Result<(), Refused>)
         ensures head { OpensBy (L.named source) (L.named target) (L.geometry source) (L.geometry target) (S.meaning shelf) (S.meaning (shelf_of result.0)) result.1 }
         ensures shut { ShutBy (phase_of result.0) result.1 }
+        ensures housed { OnOk result.1 (Housed (known L.geometry result.0) (S.meaning (shelf_of result.0))) }
     {
         let mut volume = Volume::unopened(shelf, source, target);
         let result = volume.take_up();
@@ -91,11 +101,15 @@ impl<S: Shelf, L: Layout> Volume<S, L> {
         &self.shelf
     }
 
-    // The shelf, for what is no operation, as setting a trial shelf's fuse.
-    pub fn shelf_mut(&mut self) -> &mut S
-        ensures { result.now ≡ shelf_of self.old }
+    // Sets one of the shelf's controls, as a trial shelf's fuse: what the shelf means stays as it is.
+    pub fn control(&mut self, control: S::Control) -> Result<(), Refusal>
+    where
+        S: Controlled,
+        ensures state { S.Controlled.sets control (shelf_of self.old) (shelf_of self.new) result }
+        ensures meaning { S.Shelf.meaning (shelf_of self.new) ≡ S.Shelf.meaning (shelf_of self.old) }
+        ensures rest { OnlyShelf self.old self.new }
     {
-        &mut self.shelf
+        self.shelf.control(control)
     }
 
     pub fn phase(&self) -> Phase
@@ -135,6 +149,8 @@ impl<S: Shelf, L: Layout> Volume<S, L> {
     // Reads a sector; where it is refused the buffer stays as it was.
     pub fn read(&mut self, sector: u64, buffer: &mut [u8]) -> Result<(), Refused>
         ensures verdict { RefusedBy (read_verdict (known L.geometry self.old) (S.meaning (shelf_of self.old)) sector (length buffer.old)) (self.new ≡ self.old) result }
+        ensures ends { Housed (known L.geometry self.old) (S.meaning (shelf_of self.old)) → CallEnds S.meaning L.geometry L.named (read_verdict (known L.geometry self.old) (S.meaning (shelf_of self.old)) sector (length buffer.old)) (λ u. Nothing) (Read sector) (self.new ≡ self.old) self.old self.new result }
+        ensures housed { StaysHoused S.meaning L.geometry self.old self.new }
         ensures buffer { OnErr result (buffer.new ≡ buffer.old) }
         ensures writes { May nothing (S.meaning (shelf_of self.old)) (S.meaning (shelf_of self.new)) }
     {
@@ -146,26 +162,24 @@ impl<S: Shelf, L: Layout> Volume<S, L> {
 
     // Writes a sector: into the log, then, with the head armed for it, to every place of its home.
     pub fn write(&mut self, sector: u64, buffer: &[u8]) -> Result<(), Refused>
-        ensures { RefusedBy (write_verdict (known L.geometry self.old) (S.meaning (shelf_of self.old)) sector (length buffer.now)) (self.new ≡ self.old) result }
+        ensures verdict { RefusedBy (write_verdict (known L.geometry self.old) (S.meaning (shelf_of self.old)) sector (length buffer.now)) (self.new ≡ self.old) result }
+        ensures ends { Housed (known L.geometry self.old) (S.meaning (shelf_of self.old)) → CallEnds S.meaning L.geometry L.named (write_verdict (known L.geometry self.old) (S.meaning (shelf_of self.old)) sector (length buffer.now)) (λ u. Nothing) (Write sector buffer.now) (self.new ≡ self.old) self.old self.new result }
+        ensures housed { StaysHoused S.meaning L.geometry self.old self.new }
     {
         self.judge_write(sector, buffer.len())?;
         let datum: &Sector = buffer.try_into().map_err(|_| Refusal::BufferLength)?;
         let parity = &self.array.parity_after(&mut self.shelf, sector, datum)?;
-        let entry = Entry {
+        self.carry_out(Entry {
             sector,
             datum,
             parity,
-        };
-        self.array.log(&mut self.shelf, entry)?;
-        self.checkpoint_armed(Some(sector))?;
-        self.array.apply(&mut self.shelf, entry)?;
-        self.checkpoint_armed(None)
+        })
     }
 
     // Starts the move to the target, and answers the overlap distance.
     pub fn begin(&mut self) -> Result<u64, Refused>
-        ensures verdict { RefusedBy (begin_verdict (L.named (target_of self.old)) (known L.geometry self.old) (S.meaning (shelf_of self.old))) (self.new ≡ self.old) result }
-        ensures distance { IfOk result (λ d. d ≡ distance_in (known L.geometry self.old)) }
+        ensures ends { CallEnds S.meaning L.geometry L.named (begin_verdict (L.named (target_of self.old)) (known L.geometry self.old) (S.meaning (shelf_of self.old))) (λ d. Distance d) Begin (self.new ≡ self.old) self.old self.new result }
+        ensures housed { StaysHoused S.meaning L.geometry self.old self.new }
     {
         let distance = self.judge_begin()?;
         self.checkpoint_progress(0, 0)?;
@@ -175,45 +189,50 @@ impl<S: Shelf, L: Layout> Volume<S, L> {
 
     // Saves the next source row into the backup slots.
     pub fn keep(&mut self) -> Result<(), Refused>
-        ensures { RefusedBy (keep_verdict (known L.geometry self.old) (S.meaning (shelf_of self.old))) (self.new ≡ self.old) result }
+        ensures verdict { RefusedBy (keep_verdict (known L.geometry self.old) (S.meaning (shelf_of self.old))) (self.new ≡ self.old) result }
+        ensures ends { Housed (known L.geometry self.old) (S.meaning (shelf_of self.old)) → CallEnds S.meaning L.geometry L.named (keep_verdict (known L.geometry self.old) (S.meaning (shelf_of self.old))) (λ u. Nothing) Keep (self.new ≡ self.old) self.old self.new result }
+        ensures housed { StaysHoused S.meaning L.geometry self.old self.new }
     {
         self.judge_keep()?;
         let row = self.kept();
-        self.keep_row().map_err(|refused| refused.in_row(row))
+        in_row(self.keep_row(), row)
     }
 
     // Writes the next target row, and grants to settle it.
     pub fn copy(&mut self) -> Result<Grant, Refused>
         ensures verdict { RefusedBy (copy_verdict (known L.geometry self.old) (S.meaning (shelf_of self.old))) (self.new ≡ self.old) result }
+        ensures ends { Housed (known L.geometry self.old) (S.meaning (shelf_of self.old)) → CallEnds S.meaning L.geometry L.named (copy_verdict (known L.geometry self.old) (S.meaning (shelf_of self.old))) (λ g. Row (granted_row g)) Copy (self.new ≡ self.old) self.old self.new result }
+        ensures housed { StaysHoused S.meaning L.geometry self.old self.new }
         ensures writes { May (From (3 + (known L.geometry self.old).backup)) (S.meaning (shelf_of self.old)) (S.meaning (shelf_of self.new)) }
     {
         self.judge_copy()?;
         let walk = self.array.walk();
         let row = walk.settled;
-        self.array
-            .place_row(&mut self.shelf, walk.target_row(row))
-            .map_err(|refused| refused.in_row(row))?;
+        let placed = self.array.place_row(&mut self.shelf, walk.target_row(row));
+        in_row(placed, row)?;
         self.hand = Some(row);
         Ok(Grant::of(row))
     }
 
     // Makes the granted row the home of its sectors. A grant of the row in hand empties the hand in any case.
     pub fn settle(&mut self, grant: Grant) -> Result<(), Refused>
-        ensures { RefusedBy (settle_verdict (known L.geometry self.old) (S.meaning (shelf_of self.old)) (row_of grant)) (OnlyHand self.old self.new (emptied (hand_of self.old) (row_of grant))) result }
+        ensures verdict { RefusedBy (settle_verdict (known L.geometry self.old) (S.meaning (shelf_of self.old)) (granted_row grant)) (OnlyHand self.old self.new (emptied (hand_of self.old) (granted_row grant))) result }
+        ensures ends { Housed (known L.geometry self.old) (S.meaning (shelf_of self.old)) → CallEnds S.meaning L.geometry L.named (settle_verdict (known L.geometry self.old) (S.meaning (shelf_of self.old)) (granted_row grant)) (λ u. Nothing) (Settle (granted_row grant)) (OnlyHand self.old self.new (emptied (hand_of self.old) (granted_row grant))) self.old self.new result }
+        ensures housed { StaysHoused S.meaning L.geometry self.old self.new }
     {
         let row = grant.spend();
         let verdict = self.judge_settle(row);
         self.empty_hand(row);
         verdict?;
-        let walk = self.array.walk();
-        self.checkpoint_progress(walk.settled.saturating_add(1), walk.kept)
-            .map_err(|refused| refused.in_row(row))
+        let settled = self.settled();
+        in_row(self.settle_row(), settled)
     }
 
     // Gives a grant back; its row is copied again later.
     pub fn hand_back(&mut self, grant: Grant) -> Result<(), Refused>
-        ensures verdict { HandedBack (hand_of self.old) (row_of grant) result }
-        ensures hand { OnlyHand self.old self.new (emptied (hand_of self.old) (row_of grant)) }
+        ensures ends { CallEnds S.meaning L.geometry L.named (hand_back_verdict (known L.geometry self.old) (granted_row grant)) (λ u. Nothing) (HandBack (granted_row grant)) (OnlyHand self.old self.new (emptied (hand_of self.old) (granted_row grant))) self.old self.new result }
+        ensures housed { StaysHoused S.meaning L.geometry self.old self.new }
+        ensures hand { OnlyHand self.old self.new (emptied (hand_of self.old) (granted_row grant)) }
     {
         if self.empty_hand(grant.spend()) {
             Ok(())
@@ -224,7 +243,8 @@ impl<S: Shelf, L: Layout> Volume<S, L> {
 
     // Ends the move: the target is the volume's layout from here on.
     pub fn finish(&mut self) -> Result<Finished, Refused>
-        ensures { RefusedBy (finish_verdict (known L.geometry self.old) (S.meaning (shelf_of self.old))) (self.new ≡ self.old) result }
+        ensures ends { CallEnds S.meaning L.geometry L.named (finish_verdict (known L.geometry self.old) (S.meaning (shelf_of self.old))) (λ f. Counts f.rows f.kept) Finish (self.new ≡ self.old) self.old self.new result }
+        ensures housed { StaysHoused S.meaning L.geometry self.old self.new }
     {
         self.judge_finish()?;
         let counts = Finished {
@@ -232,8 +252,7 @@ impl<S: Shelf, L: Layout> Volume<S, L> {
             kept: self.kept(),
         };
         let label = self.array.target.label();
-        self.array
-            .checkpoint(&mut self.shelf, label, Progress::Idle, None)?;
+        self.checkpoint(label, Progress::Idle, None)?;
         self.array.phase = Phase::After;
         Ok(counts)
     }
@@ -244,6 +263,7 @@ impl<S: Shelf, L: Layout> Volume<S, L> {
         ensures shelf { shelf_of result ≡ shelf }
         ensures source { source_of result ≡ source }
         ensures target { target_of result ≡ target }
+        ensures hand { hand_of result ≡ None }
     {
         let head = first_head(Label::ZERO, 0, 1);
         Volume {
@@ -262,6 +282,7 @@ impl<S: Shelf, L: Layout> Volume<S, L> {
     fn shut_if_refused(&mut self, res: &Result<(), Refused>)
         ensures shelf { shelf_of self.new ≡ shelf_of self.old }
         ensures phase { ShutsBy (phase_of self.old) (phase_of self.new) res.now }
+        ensures done { OnOk res.now (self.new ≡ self.old) }
     {
         if let Err(refused) = res {
             self.array.phase = match refused.refusal {
@@ -275,6 +296,7 @@ impl<S: Shelf, L: Layout> Volume<S, L> {
     fn lay_out(&mut self, backup: u32, size: u64) -> Result<(), Refused>
         ensures verdict { RefusedBy (create_verdict (L.named (source_of self.old)) (L.geometry (source_of self.old)) (S.meaning (shelf_of self.old)) backup size) (self.new ≡ self.old) result }
         ensures phase { OnOk result (phase_of self.new ≡ Before) }
+        ensures housed { hand_of self.old ≡ None → OnOk result (Housed (known L.geometry self.new) (S.meaning (shelf_of self.new))) }
     {
         self.judge_create(backup, size)?;
         let head = first_head(self.array.source.label(), size, backup);
@@ -286,16 +308,22 @@ impl<S: Shelf, L: Layout> Volume<S, L> {
 
     // Finds the head that leads, has every member hold it, and finishes a write that it is armed for.
     fn take_up(&mut self) -> Result<(), Refused>
-        ensures in_use { OnOk result (InUse (phase_of self.new)) }
+        ensures in_use { OnOk result (NotShut (phase_of self.new)) }
         ensures head { OpensBy (L.named (source_of self.old)) (L.named (target_of self.old)) (L.geometry (source_of self.old)) (L.geometry (target_of self.old)) (S.meaning (shelf_of self.old)) (S.meaning (shelf_of self.new)) result }
+        ensures housed { hand_of self.old ≡ None → OnOk result (Housed (known L.geometry self.new) (S.meaning (shelf_of self.new))) }
     {
         let head = self.restarted_head()?.ok_or(Refusal::NoHead)?;
         self.judge_head(&head)?;
         self.array.head = head;
-        self.array.phase = match head.progress {
-            Progress::Idle => Phase::Before,
-            Progress::Moving { .. } => Phase::Moving,
-        };
+        self.array.phase = phase_under(head.progress);
+        self.go_on()
+    }
+
+    // Every member holds the head, and a write that it is armed for is finished.
+    fn go_on(&mut self) -> Result<(), Refused>
+        ensures { Alike S.meaning self.old self.new }
+    {
+        let head = self.array.head;
         self.array.spread(&mut self.shelf, &head)?;
         let Some(sector) = head.armed else {
             return Ok(());
@@ -316,34 +344,63 @@ impl<S: Shelf, L: Layout> Volume<S, L> {
         leading_head(&mut self.shelf)
     }
 
-    // A checkpoint that arms the head for a sector, or disarms it.
-    fn checkpoint_armed(&mut self, armed: Option<u64>) -> Result<(), Refused>
-        ensures { phase_of self.new ≡ phase_of self.old }
+    // A write goes into the log, then, with the head armed for it, to every place of its home.
+    fn carry_out(&mut self, entry: Entry) -> Result<(), Refused>
+        ensures alike { Alike S.meaning self.old self.new }
+        ensures ends { self.old.array.head.number + 2 ≤ MOST_NUMBER → Carried S.meaning L.geometry entry.entry.sector self.old self.new result }
     {
-        let source = self.array.head.source;
-        let progress = self.array.head.progress;
+        self.array.log(&mut self.shelf, entry)?;
+        self.checkpoint_armed(Some(entry.sector))?;
+        self.array.apply(&mut self.shelf, entry)?;
+        self.checkpoint_armed(None)
+    }
+
+    // The next checkpoint of the array.
+    fn checkpoint(
+        &mut self,
+        source: Label,
+        progress: Progress,
+        armed: Option<u64>,
+    ) -> Result<(), Refused>
+        ensures { CheckpointOf S.meaning L.geometry source progress armed self.old self.new result }
+    {
         self.array
             .checkpoint(&mut self.shelf, source, progress, armed)
     }
 
-    // A checkpoint of a move that has come so far.
-    fn checkpoint_progress(&mut self, settled: u64, kept: u64) -> Result<(), Refused> {
-        let source = self.array.head.source;
-        let target = self.array.target.label();
-        self.array.checkpoint(
-            &mut self.shelf,
-            source,
-            Progress::Moving {
-                target,
-                settled,
-                kept,
-            },
-            None,
-        )
+    // A checkpoint that arms the head for a sector, or disarms it.
+    fn checkpoint_armed(&mut self, armed: Option<u64>) -> Result<(), Refused>
+        ensures { CheckpointOf S.meaning L.geometry self.old.array.head.source self.old.array.head.progress armed self.old self.new result }
+    {
+        self.checkpoint(self.array.head.source, self.array.head.progress, armed)
     }
 
-    // The slots are settled before the checkpoint that names them.
-    fn keep_row(&mut self) -> Result<(), Refused> {
+    // A checkpoint of a move that has come so far.
+    fn checkpoint_progress(&mut self, settled: u64, kept: u64) -> Result<(), Refused>
+        ensures { CheckpointOf S.meaning L.geometry self.old.array.head.source (UnderWay (L.named self.old.array.target) settled kept) None self.old self.new result }
+    {
+        let target = self.array.target.label();
+        let progress = Progress::Moving {
+            target,
+            settled,
+            kept,
+        };
+        self.checkpoint(self.array.head.source, progress, None)
+    }
+
+    // The next target row is settled.
+    fn settle_row(&mut self) -> Result<(), Refused>
+        ensures { let h = self.old.array.head in settled_rows h.progress ≤ (L.geometry self.old.array.target).rows → CheckpointOf S.meaning L.geometry h.source (UnderWay (L.named self.old.array.target) (settled_rows h.progress + 1) (kept_rows h.progress)) None self.old self.new result }
+    {
+        let walk = self.array.walk();
+        self.checkpoint_progress(walk.settled.saturating_add(1), walk.kept)
+    }
+
+    // The slots are durable before the checkpoint that names them.
+    fn keep_row(&mut self) -> Result<(), Refused>
+        ensures ends { HasVolume L.geometry self.old.array (S.meaning self.old.shelf) → (known L.geometry self.old).kept * (L.geometry self.old.array.source).row_len < self.old.array.head.size → self.old.array.head.number < MOST_NUMBER → KeepEnds S.meaning L.geometry L.named self.old self.new result }
+        ensures housed { StaysHoused S.meaning L.geometry self.old self.new }
+    {
         let walk = self.array.walk();
         self.array.save(&mut self.shelf, walk.next_kept())?;
         self.checkpoint_progress(walk.settled, walk.kept.saturating_add(1))
@@ -362,12 +419,27 @@ impl<S: Shelf, L: Layout> Volume<S, L> {
     }
 }
 
+// What was met in a call that is about a row.
+fn in_row(outcome: Result<(), Refused>, row: u64) -> Result<(), Refused>
+    ensures { result ≡ rowed row outcome }
+{
+    outcome.map_err(|refused| refused.in_row(row))
+}
+
+// The phase of a volume that is opened with such a head.
+fn phase_under(progress: Progress) -> Phase
+    ensures { result ≡ phase_by progress }
+{
+    match progress {
+        Progress::Idle => Phase::Before,
+        Progress::Moving { .. } => Phase::Moving,
+    }
+}
+
 // The first checkpoint of a volume.
 fn first_head(source: Label, size: u64, backup: u32) -> Head
-    requires { (1 ≤ backup) × (backup ≤ 4096) }
-    ensures first { result.number ≡ 1 }
-    ensures asked { (result.source ≡ source) × (result.size ≡ size) × (result.backup ≡ backup) }
-    ensures idle { (result.progress ≡ Idle) × (result.armed ≡ None) }
+    requires { (1 ≤ backup) × (backup ≤ MOST_BACKUP) }
+    ensures { First source size backup result }
 {
     Head {
         number: 1,

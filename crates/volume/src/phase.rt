@@ -1,3 +1,3 @@
 // Phases of a volume, and the calls that are judged by them.
 pub use model::call::Call;
-pub use stage::phase::Phase;
+pub use model::phase::Phase;

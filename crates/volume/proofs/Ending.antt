@@ -1,0 +1,94 @@
+-- How calls end that are one checkpoint.
+use Rattle.std.proofs.Common.{◌≡◌, ℕ, ◌+◌, ◌<◌, true, false, Some, None, Ok, Err, Option, Result, inl, inr, refl, sym, ap, ◌∙◌, subst, rules, arith}
+use Rattle.std.specs.Option.{option_map}
+use Rattle.answer.specs.Faults.{fault_in_row, in_row}
+use Rattle.answer.specs.declared.Fault.{Fault}
+use Rattle.answer.specs.declared.Operation.TheVariants.{Flush, Write as Writes}
+use Rattle.answer.specs.declared.Refusal.{Refusal}
+use Rattle.answer.specs.declared.Refused.{Refused}
+use Rattle.layout.specs.Geometry.{Geometry}
+use Rattle.layout.specs.declared.label.Label.{Label}
+use Rattle.head.specs.Heads.{kept_rows, settled_rows}
+use Rattle.head.specs.declared.TheConstants.{MOST_NUMBER}
+use Rattle.head.specs.declared.state.Head.{Head}
+use Rattle.head.specs.declared.state.Progress.{Progress}
+use Rattle.head.specs.declared.state.Progress.TheVariants.{Moving}
+use Rattle.shelf.specs.Meaning.{Meaning}
+use Rattle.model.specs.Answers.{InCall, operates}
+use Rattle.model.specs.Crew.{Crew}
+use Rattle.model.specs.Ends.{Met, Names}
+use Rattle.model.specs.Faults.{OnHeads}
+use Rattle.model.specs.Handed.Handed.{Nothing}
+use Rattle.model.specs.Verdicts.{emptied}
+use Rattle.model.specs.declared.request.Request.{Request}
+use Rattle.model.specs.declared.request.Request.TheVariants.{Settle}
+use Rattle.stage.specs.Checkpoint.{Checkpointed}
+use Rattle.volume.specs.declared.Volume.{Volume}
+use Rattle.volume.specs.Volumes.{CallEnds, CheckpointOf, OnlyHand, rowed}
+
+-- a head on its way is an operation of a call that writes and flushes
+pub heads_in_call : (r : Request) → operates r Writes ≡ true → operates r Flush ≡ true → (a : Meaning) (f : Fault) → OnHeads a f → InCall r None a f
+heads_in_call r writes flushes a f (inl n) = record { operation = subst (λ o. operates r o ≡ true) (sym n.operation) writes; there = n.there; row = n.row }
+heads_in_call r writes flushes a f (inr n) = record { operation = subst (λ o. operates r o ≡ true) (sym n.operation) flushes; there = n.there; row = n.row }
+
+-- names of a fault, and of the same fault with a row
+names_rowed : (row : ℕ) (F G : Fault → Type 0) → ((f : Fault) → F f → G (fault_in_row row f)) → (o : Option Fault) → Names F o → Names G (option_map (fault_in_row row) o)
+names_rowed row F G h None n = n
+names_rowed row F G h (Some f) n = h f n
+
+-- what was met keeps its cause where its fault is given a row
+pub met_rowed : {w : Crew} {b : Meaning} (row : ℕ) (F G : Fault → Type 0) → ((f : Fault) → F f → G (fault_in_row row f)) → (e : Refused) → Met w F b e → Met w G b (in_row e row)
+met_rowed {w} {b} row F G h e m = record {
+  why = elim m.why [
+    | inl cut ↦ inl (record { refusal = cut.refusal; off = cut.off })
+    | inr few ↦ inr (record {
+      refusal = few.refusal;
+      on = few.on;
+      few = few.few;
+      lost = names_rowed row (λ f. b.present f.member ≡ false) (λ f. b.present f.member ≡ false) (λ f n. n) e.fault few.lost;
+    })
+  ];
+  fault = names_rowed row F G h e.fault m.fault;
+}
+
+-- where a number is left, a checkpoint that was not done was met
+pub checkpoint_met : {w : Crew} {s : Label} {p : Progress} {i : Option ℕ} {h k : Head} {a b : Meaning} (e : Refused)
+    → h.number < MOST_NUMBER → Checkpointed w s p i h k a b (Err e) → Met w (OnHeads a) b e
+checkpoint_met {w} {s} {p} {i} {h} {k} {a} {b} e lt c = elim c.1 [ inl spent ↦ (let last = spent.last in absurd (omega (arith, lt, last))) | inr m ↦ m.met ]
+
+-- the volume with another row in hand
+abbrev pub holding : {S L : Type 0} → Volume S L → Option ℕ → Volume S L
+holding v hand = record { shelf = v.shelf; array = v.array; hand = hand }
+
+pub is_holding : {S L : Type 0} (v m : Volume S L) (hand : Option ℕ) → OnlyHand v m hand → m ≡ holding v hand
+is_holding v m hand only =
+    ap (λ x. record { shelf = x; array = m.array; hand = m.hand }) only.shelf
+    ∙ (ap (λ x. record { shelf = v.shelf; array = x; hand = m.hand }) only.array ∙ ap (holding v) only.hand)
+
+-- the next target row was settled, with the hand that its grant left, or this was met
+settle_by : {S L : Type 0} (mean : S → Meaning) (place : L → Geometry) (name : L → Label) (verdict : Option Refusal) (same : Type 0) (row : ℕ) (v w : Volume S L)
+    → verdict ≡ None → v.array.head.number < MOST_NUMBER → (x : Result Unit Refused)
+    → CheckpointOf mean place v.array.head.source (Moving (name v.array.target) (settled_rows v.array.head.progress + 1) (kept_rows v.array.head.progress)) None
+    (holding v (emptied v.hand row)) w x
+    → CallEnds mean place name verdict (λ u. Nothing) (Settle row) same v w (rowed (settled_rows v.array.head.progress) x)
+settle_by mean place name verdict same row v w none left (Ok x) c = search rules
+settle_by mean place name verdict same row v w none left (Err e) c = inr (record {
+  by = none;
+  met = met_rowed (settled_rows v.array.head.progress) (OnHeads (mean v.shelf)) (InCall (Settle row) (Some (settled_rows v.array.head.progress)) (mean v.shelf))
+      (λ f n. (let here = heads_in_call (Settle row) refl refl (mean v.shelf) f n in record { operation = here.operation; there = here.there; row = refl })) e
+      (checkpoint_met e left c.stage);
+  head = c.stage.0;
+  known = search rules;
+})
+
+pub settle_ends : {S L : Type 0} (mean : S → Meaning) (place : L → Geometry) (name : L → Label) (verdict : Option Refusal) (same : Type 0) (row : ℕ) (v m w : Volume S L)
+    → verdict ≡ None → v.array.head.number < MOST_NUMBER → OnlyHand v m (emptied v.hand row) → (x : Result Unit Refused)
+    → CheckpointOf mean place m.array.head.source (Moving (name m.array.target) (settled_rows m.array.head.progress + 1) (kept_rows m.array.head.progress)) None m w x
+    → (about : ℕ) → about ≡ settled_rows m.array.head.progress → (r : Result Unit Refused) → r ≡ rowed about x
+    → CallEnds mean place name verdict (λ u. Nothing) (Settle row) same v w r
+settle_ends mean place name verdict same row v m w none left only x c about is r e =
+    let about_v = is ∙ ap (λ y. settled_rows y.head.progress) only.array in
+    subst (λ y. CallEnds mean place name verdict (λ u. Nothing) (Settle row) same v w y) (sym (e ∙ ap (λ y. rowed y x) about_v))
+    (settle_by mean place name verdict same row v w none left x
+    (subst (λ y. CheckpointOf mean place y.array.head.source (Moving (name y.array.target) (settled_rows y.array.head.progress + 1) (kept_rows y.array.head.progress)) None y w x)
+    (is_holding v m (emptied v.hand row) only) c))

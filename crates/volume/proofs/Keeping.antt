@@ -1,0 +1,82 @@
+-- How a keep and a copy end.
+use Rattle.std.proofs.Common.{◌≡◌, ℕ, ◌+◌, ◌<◌, List, true, false, Some, None, Ok, Err, Option, Result, inr, refl, sym, ap, ◌∙◌, subst, rules}
+use Rattle.std.proofs.lemmas.Bool.{both_ways}
+use Rattle.std.specs.Result.{is_ok}
+use Rattle.answer.specs.Faults.{fault_in_row}
+use Rattle.answer.specs.declared.Fault.{Fault}
+use Rattle.answer.specs.declared.Operation.{Operation}
+use Rattle.answer.specs.declared.Operation.TheVariants.{Flush, Read as Reads, Restart, Write as Writes}
+use Rattle.answer.specs.declared.Refusal.{Refusal}
+use Rattle.answer.specs.declared.Refused.{Refused}
+use Rattle.layout.specs.Geometry.{Geometry}
+use Rattle.layout.specs.declared.label.Label.{Label}
+use Rattle.head.specs.Heads.{kept_rows, settled_rows}
+use Rattle.head.specs.declared.TheConstants.{MOST_NUMBER}
+use Rattle.head.specs.declared.state.Progress.TheVariants.{Moving}
+use Rattle.shelf.specs.Meaning.{Meaning}
+use Rattle.model.specs.Answers.{InCall, operates}
+use Rattle.model.specs.Crew.{Crew, enough}
+use Rattle.model.specs.Ends.{Met}
+use Rattle.model.specs.Faults.{OnHeads}
+use Rattle.model.specs.Handed.Handed.{Nothing}
+use Rattle.model.specs.May.{May}
+use Rattle.model.specs.declared.request.Request.{Request}
+use Rattle.model.specs.declared.request.Request.TheVariants.{Copy, Keep}
+use Rattle.stage.specs.Endings.{HasVolume, OnMember, StageEnds, of_member}
+use Rattle.volume.specs.declared.Volume.{Volume}
+use Rattle.volume.specs.Volumes.{CallEnds, CheckpointOf, Housed, KeepEnds, known, rowed}
+use Rattle.volume.proofs.Ending.{checkpoint_met, met_rowed}
+use Rattle.volume.proofs.Housing.{home_has}
+use Rattle.volume.proofs.Writing.{heads_on_member, met_later, onto}
+
+pub has_volume : {S L : Type 0} (mean : S → Meaning) (place : L → Geometry) (v : Volume S L) → Housed (known place v) (mean v.shelf) → enough (known place v).crew (mean v.shelf) ≡ true
+    → HasVolume place v.array (mean v.shelf)
+has_volume mean place v housed here = record { each = λ i below. home_has (known place v) (mean v.shelf) i housed here below }
+
+-- the slots were written, and then a checkpoint
+pub keep_by : {S L : Type 0} (mean : S → Meaning) (place : L → Geometry) (name : L → Label) (v w : Volume S L) (shelf : S) {P : ℕ → ℕ → List ℕ → Type 0}
+    → v.array.head.number < MOST_NUMBER → May P (mean v.shelf) (mean shelf) → (x : Result Unit Refused)
+    → CheckpointOf mean place v.array.head.source (Moving (name v.array.target) (settled_rows v.array.head.progress) (kept_rows v.array.head.progress + 1)) None (onto v shelf) w x
+    → KeepEnds mean place name v w x
+keep_by mean place name v w shelf left m (Ok x) c = (c.stage.0, search rules)
+keep_by mean place name v w shelf left m (Err e) c = (c.stage.0, met_later m (OnHeads (mean shelf)) (heads_on_member (mean shelf)) e (checkpoint_met e left c.stage), search rules)
+
+-- a copy and a keep read, write and flush
+of_walk : (r : Request) → operates r Reads ≡ true → operates r Writes ≡ true → operates r Flush ≡ true → (o : Operation) → of_member o ≡ true → operates r o ≡ true
+of_walk r reads writes flushes Restart e = absurd (both_ways false refl e)
+of_walk r reads writes flushes Reads e = reads
+of_walk r reads writes flushes Writes e = writes
+of_walk r reads writes flushes Flush e = flushes
+
+member_in_row : (r : Request) → operates r Reads ≡ true → operates r Writes ≡ true → operates r Flush ≡ true → (row : ℕ) (a : Meaning) (f : Fault) → OnMember a f
+    → InCall r (Some row) a (fault_in_row row f)
+member_in_row r reads writes flushes row a f n = record { operation = of_walk r reads writes flushes f.operation n.operation; there = n.there; row = refl }
+
+keep_rowed : {S L : Type 0} (mean : S → Meaning) (place : L → Geometry) (name : L → Label) (verdict : Option Refusal) (same : Type 0) (v w : Volume S L)
+    → verdict ≡ None → (x : Result Unit Refused) → KeepEnds mean place name v w x
+    → CallEnds mean place name verdict (λ u. Nothing) Keep same v w (rowed (kept_rows v.array.head.progress) x)
+keep_rowed mean place name verdict same v w none (Ok x) k = record { by = none; head = k.0; known = k.1; out = refl }
+keep_rowed mean place name verdict same v w none (Err e) k = inr (record {
+  by = none;
+  met = met_rowed (kept_rows v.array.head.progress) (OnMember (mean v.shelf)) (InCall Keep (Some (kept_rows v.array.head.progress)) (mean v.shelf))
+      (member_in_row Keep refl refl refl (kept_rows v.array.head.progress) (mean v.shelf)) e k.1;
+  head = k.0;
+  known = k.2 ∙ search rules;
+})
+
+pub keep_ends : {S L : Type 0} (mean : S → Meaning) (place : L → Geometry) (name : L → Label) (verdict : Option Refusal) (same : Type 0) (v w : Volume S L)
+    → verdict ≡ None → (x : Result Unit Refused) → KeepEnds mean place name v w x → (about : ℕ) → about ≡ kept_rows v.array.head.progress → (r : Result Unit Refused) → r ≡ rowed about x
+    → CallEnds mean place name verdict (λ u. Nothing) Keep same v w r
+keep_ends mean place name verdict same v w none x k about is r e =
+    subst (λ y. CallEnds mean place name verdict (λ u. Nothing) Keep same v w y) (sym (e ∙ ap (λ y. rowed y x) is)) (keep_rowed mean place name verdict same v w none x k)
+
+abbrev err_or : Refused → Result Unit Refused → Refused
+err_or d (Ok u) = d
+err_or d (Err e) = e
+
+-- a row that was not placed was met
+pub copy_met : (w : Crew) (P : ℕ → ℕ → List ℕ → Type 0) (a b : Meaning) (row : ℕ) (x : Result Unit Refused) → StageEnds w P a b x → (e : Refused) → Err e ≡ rowed row x
+    → Met w (InCall Copy (Some row) a) b e
+copy_met w P a b row (Ok u) s e is = absurd (both_ways false refl (ap is_ok is))
+copy_met w P a b row (Err d) s e is =
+    subst (λ y. Met w (InCall Copy (Some row) a) b y) (sym (ap (err_or d) is)) (met_rowed row (OnMember a) (InCall Copy (Some row) a) (member_in_row Copy refl refl refl row a) d s.1)
