@@ -4,7 +4,7 @@
 pub fn summed<F: Fn(u64) -> u64>(rounds: u64, end: u64, ask: F) -> u64
     requires { F.IsAlwaysCallable ask }
 {
-    // a loop, since a fold over the sum and the number would be no plainer
+    // two numbers go on from turn to turn
     let mut sum: u64 = 0;
     let mut at: u64 = 0;
     for _ in 0..rounds {

@@ -6,7 +6,7 @@ use crate::setup::{
 use answer::{Fault, Operation, Refusal, Refused};
 use kinds::stock::Stock;
 use layout::Layout;
-use shelf::trial::{Cut, TrialShelf};
+use shelf::trial::{Control, Cut, TrialShelf};
 use std::alloc::Global;
 use std::process::Abort;
 use std::test::Fail;
@@ -31,7 +31,7 @@ struct Torn {
 // bears that.
 fn cut_write(heap: Global, ends: Ends, cut: Cut) -> Result<Torn, Fail> {
     let mut volume = ends.filled(TrialShelf::blank(heap, 3, 6)?, 1, 2)?;
-    volume.shelf_mut().set_cut(cut);
+    volume.control(Control::Cut(cut))?;
     let granted = put(&mut volume, 1, 2).is_ok();
     let (mut opened, _) = ends.open(volume.into_shelf());
     let is_new = shows(&mut opened, 1, 2);
@@ -179,7 +179,7 @@ fn cut_step<F: Fn(&mut Disk) -> Result<(), Refused>>(
 {
     let ends = wider(4)?;
     let mut volume = under_way(heap, ends, rows)?;
-    volume.shelf_mut().set_cut(cut);
+    volume.control(Control::Cut(cut))?;
     let granted = step(&mut volume).is_ok();
     let mut opened = reopened(volume, ends);
     let version = if shows(&mut opened, 3, 3) { 3 } else { 2 };
@@ -245,7 +245,7 @@ fn meets<F: Fn(&mut Disk) -> Result<(), Refused>>(
 {
     for &(fuse, operation, member, sector) in due {
         let mut volume = under_way(heap, wider(4)?, 1)?;
-        volume.shelf_mut().set_cut(Cut { fuse, choice: 0 });
+        volume.control(Control::Cut(Cut { fuse, choice: 0 }))?;
         let fault = Fault {
             operation,
             member,

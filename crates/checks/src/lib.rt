@@ -15,6 +15,8 @@ mod places;
 #[cfg(test)]
 mod refusals;
 #[cfg(test)]
+mod renamed;
+#[cfg(test)]
 mod setup;
 #[cfg(test)]
 mod shelves;

@@ -9,7 +9,7 @@ use kinds::stock::Stock;
 use layout::Layout;
 use layout::label::Label;
 use shelf::Shelf;
-use shelf::trial::TrialShelf;
+use shelf::trial::{Control, NEVER, TrialShelf};
 use std::alloc::Global;
 use std::test::Fail;
 use volume::Volume;
@@ -102,30 +102,30 @@ fn stale_peers(rt: HostRuntime) -> Result<(), Fail> {
     Ok(())
 }
 
-// Too many members absent in a move, and then the power gone too: lost members go before the phase, and lost power before both.
-// The write finds sector 1's member absent, which parity bears, and then that of sector 0 itself.
+// Too many members absent in a move, alone and with the power gone at the operation that shows it: lost members go before the phase, and
+// lost power before both. The write finds sector 1's member absent, which parity bears, and then that of sector 0 itself.
 #[test]
 fn lost_in_a_move(rt: HostRuntime) -> Result<(), Fail> {
-    let mut volume = trial_move(rt.alloc())?;
-    volume.begin()?;
-    lose(&mut volume, 0)?;
-    lose(&mut volume, 1)?;
-    let met = Fault {
-        operation: Operation::Read,
-        member: 0,
-        sector: 7,
-        row: None,
-    };
-    assert_eq!(rt;
-        volume.write(0, &pattern(0, 2)),
-        Err(Refused::met(Refusal::MembersLost, met))
-    );
-    let first = Answers::of(rt.alloc(), &mut volume)?;
-    assert_eq!(rt; first, Answers::all(Refusal::MembersLost));
-    volume.shelf_mut().set_fuse(0);
-    assert!(rt; volume.shelf_mut().flush(2).is_err());
-    let second = Answers::of(rt.alloc(), &mut volume)?;
-    assert_eq!(rt; second, Answers::all(Refusal::PowerLost));
+    for (fuse, due) in [(NEVER, Refusal::MembersLost), (1, Refusal::PowerLost)] {
+        let mut volume = trial_move(rt.alloc())?;
+        volume.begin()?;
+        lose(&mut volume, 0)?;
+        lose(&mut volume, 1)?;
+        volume.control(Control::Fuse(fuse))?;
+        let met = Fault {
+            operation: Operation::Read,
+            member: 0,
+            sector: 7,
+            row: None,
+        };
+        assert_eq!(rt;
+            volume.write(0, &pattern(0, 2)),
+            Err(Refused::met(due, met))
+        );
+        assert!(rt; !volume.shelf().is_present(0) && !volume.shelf().is_present(1));
+        let answers = Answers::of(rt.alloc(), &mut volume)?;
+        assert_eq!(rt; answers, Answers::all(due));
+    }
     Ok(())
 }
 

@@ -3,9 +3,9 @@ use crate::setup::{far, near, parity, striped};
 use answer::Refusal;
 use kinds::stock::Stock;
 use layout::Layout;
-use layout::field::Field;
 use layout::label::Label;
 use layout::place::{Owner, Place};
+use sector::field::Field;
 use std::test::Fail;
 
 fn datum(sector: u64, copy: u64) -> Owner {

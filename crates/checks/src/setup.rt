@@ -7,7 +7,7 @@ use layout::kind::Kind;
 use layout::label::Label;
 use sector::{SECTOR, Sector, zeros};
 use shelf::plain::PlainShelf;
-use shelf::trial::TrialShelf;
+use shelf::trial::{Control, TrialShelf};
 use shelf::{Failure, Shelf};
 use std::alloc::Global;
 use std::test::Fail;
@@ -22,7 +22,7 @@ pub fn answered<T: Drop>(res: Result<T, Refused>) -> Answer {
 }
 
 // The labels of the stock kinds: members, copies where there are more than one, chunk and depth. One for each kind, since the tests are
-// tables of such labels, and a kind at each would be no plainer.
+// tables of such labels.
 pub fn striped(members: u8, chunk: u32, depth: u64) -> Label {
     Label::stock(Kind::Striped, members, 1, chunk, depth)
 }
@@ -205,7 +205,7 @@ pub fn trial_move(heap: Global) -> Result<Volume<TrialShelf, Stock>, Fail> {
 
 // Has a member be found absent at its next operation.
 pub fn lose(volume: &mut Volume<TrialShelf, Stock>, member: u64) -> Answer {
-    volume.shelf_mut().lose(member)
+    volume.control(Control::Loss(member))
 }
 
 // The fields of a head, whether or not they are in the ranges of one.

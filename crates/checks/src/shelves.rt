@@ -38,7 +38,7 @@ fn fuse_cuts(rt: HostRuntime) -> Result<(), Fail> {
         && put(&mut shelf, 0, 1, 2) == Err(Failure::Off);
     let off = answered && !shelf.is_on() && all_answer(&mut shelf, 0, 0, Err(Failure::Off));
     let run = shelf.into_bytes();
-    // the settled image, then the current one
+    // the durable image, then the current one
     assert!(rt;
         off && lies_at(&run, 0, 0)
             && lies_at(&run, 1, 0)
@@ -92,7 +92,7 @@ fn losses_show(rt: HostRuntime) -> Result<(), Fail> {
         && shelf.is_present(2);
     shelf.restart();
     let run = shelf.into_bytes();
-    // neither settled nor taken back
+    // neither durable nor taken back
     assert_eq!(rt;
         [lost, early, late, lies_at(&run, 2, 0), lies_at(&run, 8, 1)],
         [true; 5]
@@ -198,7 +198,7 @@ fn blank_shelves(rt: HostRuntime) -> Result<(), Fail> {
 // The sectors of a shelf of 2 members with 2 sectors, by the versions that are written there: each in its place of the run.
 const PLACED: [(u64, u64, u64); 4] = [(0, 0, 1), (0, 1, 2), (1, 0, 3), (1, 1, 4)];
 
-// A write to the plain shelf is settled at once: it is read, outlasts a restart, and lies in its place of the run. A shelf over
+// A write to the plain shelf is durable at once: it is read, outlasts a restart, and lies in its place of the run. A shelf over
 // that run has the same sectors.
 #[test]
 fn plain_keeps(rt: HostRuntime) -> Result<(), Fail> {

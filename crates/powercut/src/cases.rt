@@ -1,14 +1,13 @@
 // One run of a list of calls, with trouble in one of them and in the opens after it.
-use crate::moves::Move;
 use crate::rig::{Loss, Rig, Trouble};
-use crate::run::Run;
+use crate::run::{Run, Stand};
 use crate::steps::Step;
 use crate::tally::Tally;
 use drill::DrillShelf;
 use layout::Layout;
+use model::phase::Phase;
 use model::request::Request;
-use stage::phase::Phase;
-use std::alloc::{AllocError, Global};
+use std::alloc::AllocError;
 
 // How a run goes on after its trouble.
 #[derive(Clone, Copy)]
@@ -19,10 +18,10 @@ pub enum Sequel {
     Loses(u64),
 }
 
-// A move, a list of calls, and what goes wrong in one of them.
+// What a run begins with, a list of calls, and what goes wrong in one of them.
 #[derive(Clone, Copy)]
 pub struct Case<'a> {
-    pub of: &'a Move,
+    pub stand: Stand<'a>,
     pub steps: &'a [Step],
     // the troubled call
     pub at: usize,
@@ -47,8 +46,8 @@ const LOST: usize = 4;
 
 impl<'a> Case<'a> {
     // Goes through it on a shelf of this kind.
-    pub fn play<S: Rig + Drop>(&self, heap: Global) -> Result<Tally, AllocError> {
-        let mut run = Run::<S>::start(heap, self.of)?;
+    pub fn play<S: Rig + Drop>(&self) -> Result<Tally, AllocError> {
+        let mut run = Run::<S>::start(&self.stand)?;
         let played = self.go(&mut run);
         let tally = run.end();
         played?;
@@ -56,8 +55,8 @@ impl<'a> Case<'a> {
     }
 
     // Goes through the list with no trouble.
-    pub fn play_plain<S: Rig + Drop>(&self, heap: Global) -> Result<Tally, AllocError> {
-        let mut run = Run::<S>::start(heap, self.of)?;
+    pub fn play_plain<S: Rig + Drop>(&self) -> Result<Tally, AllocError> {
+        let mut run = Run::<S>::start(&self.stand)?;
         let played = run.go_on(self.steps).and_then(|()| run.go_to_end());
         let tally = run.end();
         played?;
@@ -65,8 +64,8 @@ impl<'a> Case<'a> {
     }
 
     // Counts the operations of the troubled call, and of the open after it.
-    pub fn operations(&self, heap: Global) -> Result<Operations, AllocError> {
-        let mut run = Run::<DrillShelf>::start(heap, self.of)?;
+    pub fn operations(&self) -> Result<Operations, AllocError> {
+        let mut run = Run::<DrillShelf>::start(&self.stand)?;
         let counted = self.clock(&mut run);
         let _ = run.end();
         counted
@@ -164,9 +163,13 @@ impl<S: Rig + Drop> Run<S> {
         self.ask(&Request::Read(member))
     }
 
-    // Whether the layouts in force bear a loss, where none was lost yet.
+    // Whether the layouts in force bear one loss more, wherever the lost members are.
     fn bears_loss(&self) -> bool {
-        let (source, target) = (self.ends.source.loss() > 0, self.ends.target.loss() > 0);
+        let lost = self.absent();
+        let (source, target) = (
+            self.ends.source.loss() > lost,
+            self.ends.target.loss() > lost,
+        );
         match self.ledger.disk().phase() {
             Phase::Before => source,
             Phase::Moving => source && target,

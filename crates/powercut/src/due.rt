@@ -4,10 +4,10 @@ use crate::rig::Rig;
 use crate::run::Run;
 use crate::steps::{Step, Which};
 use layout::Layout;
+use model::phase::Phase;
 use model::request::Request;
 use overlap::need;
 use overlap::walk::Home;
-use stage::phase::Phase;
 use std::alloc::AllocError;
 use std::ops::Range;
 

@@ -1,9 +1,9 @@
 // The flat disks that a run is held to.
 use kinds::stock::Stock;
-use model::candidates::Candidates;
-use model::count::Told;
-use model::disk::Disk;
 use model::request::Request;
+use model::told::Told;
+use oracle::candidates::Candidates;
+use oracle::disk::Disk;
 use shelf::image::Image;
 use std::alloc::{AllocError, Global};
 

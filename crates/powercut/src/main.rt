@@ -15,9 +15,12 @@ mod tally;
 mod tries;
 
 use anyhow::ensure;
-use model::worked_examples;
+use model::{enough_reads, runs_call_by_call, worked_examples, worked_runs};
 use moves::Move;
+use overlap::need_is_highest;
+use pattern::rubbish;
 use random::Random;
+use run::Stand;
 use shelf::relation_stands;
 use shelf::trial::controls_stand;
 use std::alloc::{AllocError, Global};
@@ -25,7 +28,7 @@ use std::env;
 use tally::Tally;
 use tries::{Pace, Tries};
 
-// what the gate runs: none, all, and some of what is not settled survives a cut
+// what the gate runs: none, all, and some of what is not durable survives a cut, beside the two words of the shelf
 const SHORT: Pace = Pace {
     choices: &[0, 0xffff_ffff, 0x3c3c_c3c3],
     sieve: 19,
@@ -57,9 +60,15 @@ const SEED: u64 = 0x2545_f491_4f6c_dd1d;
 // Tries a move with the list that is written for it, and with random ones.
 fn try_move(heap: Global, of: &Move, pace: Pace, random: &mut Random) -> Result<Tally, AllocError> {
     let steps = steps::scripted(heap, of)?;
+    let sectors = of.members.saturating_mul(of.sectors());
+    let rubbish = rubbish(heap, sectors.saturating_mul(2))?;
     let scripted = Tries {
-        heap,
-        of,
+        stand: Stand {
+            heap,
+            of,
+            rubbish: &rubbish,
+            lost: None,
+        },
         steps: &steps,
         pace,
         stride: 1,
@@ -83,10 +92,15 @@ fn pace(rt: &HostRuntime) -> anyhow::Result<Pace> {
     Ok(if long { LONG } else { SHORT })
 }
 
-// The theorems that the runs rest on: what the flat disk, the counts and the verdicts come to in small examples, what no shelf may forget and
-// what each may do, and at which operation a fuse goes.
+// The theorems that the runs rest on: what the flat disk, the counts, the verdicts and the law come to in small examples, that the law goes call by
+// call, that need is what it is called, that enough members have each sector, what no shelf may forget and what each may do, and at which
+// operation a fuse goes.
 fn theorems() {
     worked_examples();
+    worked_runs();
+    runs_call_by_call();
+    need_is_highest();
+    enough_reads();
     relation_stands();
     controls_stand();
 }

@@ -69,6 +69,14 @@ impl Move {
             .saturating_add(u64::from(self.backup))
             .saturating_add(source.depth().max(target.depth()))
     }
+
+    // The bits of a choice word that rule the heads. On a shelf of more than 32 sectors each rules others too: 32 sectors on in the image, where no
+    // log is in any of the moves here.
+    pub fn heads_bits(&self) -> u32 {
+        (0..self.members)
+            .map(|member| 1u32 << (member.wrapping_mul(self.sectors()) % 32) as u32)
+            .fold(0, |bits, bit| bits | bit)
+    }
 }
 
 // `left-symmetric 3, chunk 1, depth 8`

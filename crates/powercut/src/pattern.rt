@@ -1,5 +1,6 @@
 // What is written: each content tells its sector and the version of the write.
 use sector::{Sector, zeros};
+use std::alloc::{AllocError, Global};
 
 // Other contents than the main program and the tests write, so that no formula hides a mistake in each of them.
 pub fn pattern(sector: u64, version: u64) -> Sector {
@@ -14,4 +15,16 @@ pub fn pattern(sector: u64, version: u64) -> Sector {
     let [v0, v1, ..] = version.to_le_bytes();
     out[..4].copy_from_slice(&[s0, s1, v0, v1]);
     out
+}
+
+// a version that no write comes to
+const RUBBISH: u64 = 0xffff;
+
+// What a shelf holds before a volume is created on it: so many sectors, no two of them alike and none of zeros.
+pub fn rubbish(heap: Global, sectors: u64) -> Result<Vec<u8>, AllocError> {
+    let mut bytes = Vec::new(heap);
+    for sector in 0..sectors {
+        bytes.extend_from_slice(&pattern(sector, RUBBISH))?;
+    }
+    Ok(bytes)
 }

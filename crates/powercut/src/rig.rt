@@ -1,5 +1,6 @@
 // What can go wrong with a shelf, and the shelves that it is tried with.
 use drill::{DrillShelf, Incident, Kind};
+use shelf::controlled::Controlled;
 use shelf::image::Image;
 use shelf::trial::{self, NEVER, TrialShelf};
 use std::alloc::{AllocError, Global};
@@ -68,60 +69,47 @@ impl Trouble {
 
 // A shelf that trouble can be arranged for, as far as it can: a trial shelf cuts at the end of an operation alone, and loses a member at its
 // next one.
-pub trait Rig: Image {
-    fn blank(heap: Global, members: u64, sectors: u64) -> Result<Self, AllocError>;
+pub trait Rig: Image + Controlled {
+    // Over a run of bytes, durable contents and current ones.
+    fn over(heap: Global, members: u64, sectors: u64, bytes: Vec<u8>) -> Self;
 
-    // Without sectors, to stand in where a shelf is taken out.
-    fn empty(heap: Global) -> Self;
-
-    // Has this happen from the next operation on, and nothing else.
-    fn arrange(&mut self, heap: Global, trouble: &Trouble) -> Result<(), AllocError>;
+    // The controls that have this happen from the next operation on, and nothing else.
+    fn arranged(&self, heap: Global, trouble: &Trouble) -> Result<Vec<Self::Control>, AllocError>;
 }
 
 impl Rig for TrialShelf {
-    fn blank(heap: Global, members: u64, sectors: u64) -> Result<TrialShelf, AllocError> {
-        TrialShelf::blank(heap, members, sectors)
+    fn over(_heap: Global, members: u64, sectors: u64, bytes: Vec<u8>) -> TrialShelf {
+        TrialShelf::new(members, sectors, bytes)
     }
 
-    fn empty(heap: Global) -> TrialShelf {
-        TrialShelf::new(0, 0, Vec::new(heap))
-    }
-
-    fn arrange(&mut self, _heap: Global, trouble: &Trouble) -> Result<(), AllocError> {
+    fn arranged(&self, heap: Global, trouble: &Trouble) -> Result<Vec<trial::Control>, AllocError> {
+        let mut controls = Vec::new(heap);
         for loss in trouble.losses.iter().flatten() {
-            // a member that the shelf has not cannot be lost
-            let _ = self.lose(loss.member);
+            controls.push(trial::Control::Loss(loss.member))?;
         }
-        match trouble.cut {
-            Some(cut) => self.set_cut(trial::Cut {
+        controls.push(match trouble.cut {
+            Some(cut) => trial::Control::Cut(trial::Cut {
                 fuse: u32::try_from(cut.at).unwrap_or(NEVER),
                 choice: cut.choice,
             }),
-            None => self.set_fuse(NEVER),
-        }
-        Ok(())
+            None => trial::Control::Fuse(NEVER),
+        })?;
+        Ok(controls)
     }
 }
 
 impl Rig for DrillShelf {
-    fn blank(heap: Global, members: u64, sectors: u64) -> Result<DrillShelf, AllocError> {
-        Ok(DrillShelf::new(
-            TrialShelf::blank(heap, members, sectors)?,
-            Vec::new(heap),
-            Vec::new(heap),
-        ))
-    }
-
-    fn empty(heap: Global) -> DrillShelf {
+    fn over(heap: Global, members: u64, sectors: u64, bytes: Vec<u8>) -> DrillShelf {
         DrillShelf::new(
-            TrialShelf::new(0, 0, Vec::new(heap)),
+            TrialShelf::new(members, sectors, bytes),
             Vec::new(heap),
             Vec::new(heap),
         )
     }
 
-    fn arrange(&mut self, heap: Global, trouble: &Trouble) -> Result<(), AllocError> {
+    fn arranged(&self, heap: Global, trouble: &Trouble) -> Result<Vec<drill::Control>, AllocError> {
         let now = self.clock();
+        let mut controls = Vec::new(heap);
         let mut incidents = Vec::new(heap);
         for loss in trouble.losses.iter().flatten() {
             incidents.push(Incident {
@@ -137,9 +125,9 @@ impl Rig for DrillShelf {
                     Side::After => Kind::CutAfter,
                 },
             })?;
-            self.set_choices(vec![in heap; cut.choice]?);
+            controls.push(drill::Control::Choices(vec![in heap; cut.choice]?))?;
         }
-        self.set_incidents(incidents);
-        Ok(())
+        controls.push(drill::Control::Incidents(incidents))?;
+        Ok(controls)
     }
 }

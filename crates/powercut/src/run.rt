@@ -1,14 +1,15 @@
 // A volume under way, beside the flat disk that it is held to.
 use crate::ledger::Ledger;
 use crate::moves::{Ends, Move};
-use crate::rig::{Rig, Trouble};
+use crate::rig::{Loss, Rig, Trouble};
 use crate::tally::{Finding, Tally, Wrong};
 use answer::{Refusal, Refused};
 use kinds::stock::Stock;
 use layout::Layout;
-use model::count::{Told, strays};
-use model::fresh::misplaced;
 use model::request::Request;
+use model::told::Told;
+use oracle::count::strays;
+use oracle::fresh::misplaced;
 use overlap::live_rows;
 use sector::{SECTOR, Sector};
 use std::alloc::{AllocError, Global};
@@ -18,6 +19,15 @@ use volume::{Finished, Volume};
 
 // what the buffer of a read holds before it
 const UNREAD: Sector = [0xa5; SECTOR];
+
+// What runs begin with: a move, what its shelf holds before, and a member that is lost at once.
+#[derive(Clone, Copy)]
+pub struct Stand<'a> {
+    pub heap: Global,
+    pub of: &'a Move,
+    pub rubbish: &'a [u8],
+    pub lost: Option<u64>,
+}
 
 // A run of calls. It holds a grant, which cannot be dropped, so it has to be ended.
 pub struct Run<S> {
@@ -35,10 +45,22 @@ pub struct Run<S> {
 }
 
 impl<S: Rig + Drop> Run<S> {
-    // A new volume of zeros.
-    pub fn start(heap: Global, of: &Move) -> Result<Run<S>, AllocError> {
+    // A new volume of zeros on a shelf of rubbish, which may lose a member while it is created.
+    pub fn start(stand: &Stand) -> Result<Run<S>, AllocError> {
+        let Stand {
+            heap,
+            of,
+            rubbish,
+            lost,
+        } = *stand;
         let Ends { source, target } = of.ends;
-        let shelf = S::blank(heap, of.members, of.sectors())?;
+        let bytes = Vec::from_slice(heap, rubbish)?;
+        let mut shelf = S::over(heap, of.members, of.sectors(), bytes);
+        if let Some(member) = lost {
+            for control in shelf.arranged(heap, &Trouble::loss(Loss { at: 0, member }))? {
+                let _ = shelf.control(control);
+            }
+        }
         let ledger = Ledger::created(heap, of.size as usize)?;
         let (volume, created) = Volume::create(shelf, source, target, of.backup, of.size);
         let mut run = Run {
@@ -62,7 +84,7 @@ impl<S: Rig + Drop> Run<S> {
     pub fn end(self) -> Tally {
         let Run {
             heap: _,
-            of,
+            of: _,
             ends: _,
             mut volume,
             grant,
@@ -71,18 +93,25 @@ impl<S: Rig + Drop> Run<S> {
             trouble: _,
             mut tally,
         } = self;
+        tally.losses = absent(volume.shelf());
         if let Some(grant) = grant {
             let _ = volume.hand_back(grant);
         }
-        tally.losses = (0..of.members)
-            .filter(|member| !volume.shelf().is_present(*member))
-            .count() as u64;
         tally
+    }
+
+    // How many members are lost.
+    pub fn absent(&self) -> u64 {
+        absent(self.volume.shelf())
     }
 
     // Has this happen from the next operation on, and nothing else.
     pub fn arrange(&mut self, trouble: &Trouble) -> Result<(), AllocError> {
-        self.volume.shelf_mut().arrange(self.heap, trouble)
+        for control in self.volume.shelf().arranged(self.heap, trouble)? {
+            // a member that the shelf has not cannot be lost
+            let _ = self.volume.control(control);
+        }
+        Ok(())
     }
 
     // Asks one call of the volume and of the flat disk, and takes the stray count.
@@ -173,11 +202,13 @@ impl<S: Rig + Drop> Run<S> {
         }
     }
 
-    // The shelf is taken out through a reference, since the run stays in its place: the old volume goes at once.
+    // The shelf comes out of the volume itself, for which a shut one on an empty shelf stands in meanwhile.
     fn open_with(&mut self, ends: Ends) -> Result<(), Refused> {
-        let empty = S::empty(self.heap);
-        let shelf = mem::replace(self.volume.shelf_mut(), empty);
-        let (volume, opened) = Volume::open(shelf, ends.source, ends.target);
+        let Ends { source, target } = ends;
+        let empty = S::over(self.heap, 0, 0, Vec::new(self.heap));
+        let (shut, _) = Volume::open(empty, source, target);
+        let shelf = mem::replace(&mut self.volume, shut).into_shelf();
+        let (volume, opened) = Volume::open(shelf, source, target);
         self.volume = volume;
         opened
     }
@@ -259,6 +290,13 @@ impl<S: Rig + Drop> Run<S> {
             wrong,
         });
     }
+}
+
+// How many members of a shelf are absent.
+fn absent<S: Rig>(shelf: &S) -> u64 {
+    (0..shelf.members())
+        .filter(|member| !shelf.is_present(*member))
+        .count() as u64
 }
 
 // Whether a call met the end of power.

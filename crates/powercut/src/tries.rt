@@ -1,17 +1,18 @@
 // Every kind of trouble, in every call of a list.
 use crate::cases::{Case, Sequel};
-use crate::moves::Move;
 use crate::rig::{Cut, Loss, Rig, Side, Trouble};
+use crate::run::Stand;
 use crate::steps::Step;
 use crate::tally::Tally;
 use drill::DrillShelf;
+use layout::Layout;
 use shelf::trial::TrialShelf;
-use std::alloc::{AllocError, Global};
+use std::alloc::AllocError;
 
 // How thorough the tries are.
 #[derive(Clone, Copy)]
 pub struct Pace {
-    // the choice words of each cut
+    // the choice words of each cut, beside the two of the shelf
     pub choices: &'static [u32],
     // of the pairs of operations, one of so many is tried
     pub sieve: u64,
@@ -20,7 +21,7 @@ pub struct Pace {
     pub stride: u64,
 }
 
-// A choice word, another one for each number: what is not settled is lost, survives, or is mixed.
+// A choice word, another one for each number: what is not durable is lost, survives, or is mixed.
 fn choice(number: u64) -> u32 {
     match number % 4 {
         0 => 0,
@@ -38,8 +39,7 @@ fn is_tried(one: u64, other: u64, stride: u64) -> bool {
 // A list of calls on a move, to be tried.
 #[derive(Clone, Copy)]
 pub struct Tries<'a> {
-    pub heap: Global,
-    pub of: &'a Move,
+    pub stand: Stand<'a>,
     pub steps: &'a [Step],
     pub pace: Pace,
     // of the operations of a call, one of so many is tried
@@ -49,16 +49,53 @@ pub struct Tries<'a> {
 impl<'a> Tries<'a> {
     // Every kind of trouble in every call, and the list without any.
     pub fn all(&self) -> Result<Tally, AllocError> {
-        let mut tally = self.case(0).play_plain::<TrialShelf>(self.heap)?;
+        let mut tally = self.case(0).play_plain::<TrialShelf>()?;
         for at in 0..self.steps.len() {
-            let operations = self.case(at).operations(self.heap)?.call;
+            let operations = self.case(at).operations()?.call;
             for operation in 0..operations {
                 if is_tried(at as u64, operation, self.stride) {
                     tally = tally + self.at_operation(at, operation, operations)?;
                 }
             }
+            tally = tally + self.degraded(at)?;
         }
         Ok(tally)
+    }
+
+    // The same call of a volume that was created with a member lost, cut at each operation with one choice word or another.
+    fn degraded(&self, at: usize) -> Result<Tally, AllocError> {
+        let mut tally = Tally::default();
+        if self.stand.of.ends.source.loss() == 0 {
+            return Ok(tally);
+        }
+        let lost = Some(self.member(at as u64));
+        let degraded = Tries {
+            stand: Stand { lost, ..self.stand },
+            ..*self
+        };
+        for operation in 0..degraded.case(at).operations()?.call {
+            if is_tried(at as u64, operation, self.stride) {
+                let choice = self.word(operation.wrapping_add(at as u64));
+                let side = Side::After;
+                let cut = Cut {
+                    at: operation,
+                    side,
+                    choice,
+                };
+                tally = tally + degraded.cut::<TrialShelf>(at, cut, operation)?;
+            }
+        }
+        Ok(tally)
+    }
+
+    // One of the choice words of a cut, another one for each number.
+    fn word(&self, number: u64) -> u32 {
+        let heads = self.stand.of.heads_bits();
+        match number % 3 {
+            0 => !heads,
+            1 => heads,
+            _ => choice(number / 3),
+        }
     }
 
     // Every kind of trouble that begins at an operation of a call.
@@ -79,7 +116,7 @@ impl<'a> Tries<'a> {
     // The case with no trouble.
     fn case(&self, at: usize) -> Case<'a> {
         Case {
-            of: self.of,
+            stand: self.stand,
             steps: self.steps,
             at,
             trouble: Trouble::NONE,
@@ -90,10 +127,11 @@ impl<'a> Tries<'a> {
 
     // A member, another one for each number.
     fn member(&self, number: u64) -> u64 {
-        number % self.of.members.max(1)
+        number % self.stand.of.members.max(1)
     }
 
-    // The power goes at the end of an operation of a call, with every choice word, and before it.
+    // The power goes at the end of an operation of a call, with every choice word and those of all new heads over old contents and of all old
+    // heads under new ones, and before it.
     fn cuts(&self, at: usize, operation: u64) -> Result<Tally, AllocError> {
         let before = Cut {
             at: operation,
@@ -101,7 +139,9 @@ impl<'a> Tries<'a> {
             choice: choice(operation),
         };
         let mut tally = self.cut::<DrillShelf>(at, before, operation)?;
-        for (number, &choice) in self.pace.choices.iter().enumerate() {
+        let heads = self.stand.of.heads_bits();
+        let words = [heads, !heads];
+        for (number, &choice) in self.pace.choices.iter().chain(&words).enumerate() {
             let after = Cut {
                 at: operation,
                 side: Side::After,
@@ -125,7 +165,7 @@ impl<'a> Tries<'a> {
             },
             ..self.case(at)
         }
-        .play::<S>(self.heap)
+        .play::<S>()
     }
 
     // The power goes at an operation of a call, and then twice more inside of opens.
@@ -139,7 +179,7 @@ impl<'a> Tries<'a> {
             trouble: cut(operation, operation),
             ..self.case(at)
         };
-        let open = case.operations(self.heap)?.open;
+        let open = case.operations()?.open;
         let mut tally = Tally::default();
         for inside in 0..open {
             if is_tried(operation, inside, self.pace.sieve) {
@@ -149,7 +189,7 @@ impl<'a> Tries<'a> {
                     sequel: Sequel::Loses(self.member(inside)),
                     ..case
                 }
-                .play::<DrillShelf>(self.heap)?;
+                .play::<DrillShelf>()?;
                 tally = tally + found;
             }
         }
@@ -159,7 +199,7 @@ impl<'a> Tries<'a> {
     // Each member is lost at an operation of a call.
     fn losses(&self, at: usize, operation: u64) -> Result<Tally, AllocError> {
         let mut tally = Tally::default();
-        for member in 0..self.of.members {
+        for member in 0..self.stand.of.members {
             let found = Case {
                 trouble: Trouble::loss(Loss {
                     at: operation,
@@ -168,7 +208,7 @@ impl<'a> Tries<'a> {
                 sequel: Sequel::Ends(self.member(member.wrapping_add(1))),
                 ..self.case(at)
             }
-            .play::<DrillShelf>(self.heap)?;
+            .play::<DrillShelf>()?;
             tally = tally + found;
         }
         Ok(tally)
@@ -212,8 +252,8 @@ impl<'a> Tries<'a> {
             sequel: Sequel::Ends(other),
             ..self.case(at)
         };
-        let twice = case(Trouble::losses(first, second)).play::<DrillShelf>(self.heap)?;
-        let dark = case(Trouble::loss(first).and_cut(cut)).play::<DrillShelf>(self.heap)?;
+        let twice = case(Trouble::losses(first, second)).play::<DrillShelf>()?;
+        let dark = case(Trouble::loss(first).and_cut(cut)).play::<DrillShelf>()?;
         Ok(twice + dark)
     }
 }

@@ -6,12 +6,21 @@
 // so the depth is d rounded down to chunks. The recording numbers copies by their places, so what counts is the set of places.
 #![tactic(auto)]
 
+ghost use Rattle.std.specs.Prelude.{◌≡◌, ◌&&◌, ◌==◌};
+ghost use Rattle.vectors.specs.Agreements.{agreed};
+
+mod totals;
+
 use kinds::stock::Stock;
 use layout::Layout;
 use layout::kind::Kind;
 use layout::label::Label;
 use layout::place::{Owner, Place};
+use std::alloc::{AllocFailed, Global};
+use std::error::Error;
+use std::fmt;
 use std::str::FromStr;
+pub use totals::Totals;
 
 // how a recording compares
 #[derive(Clone, Copy, Default, PartialEq, Eq, Debug)]
@@ -19,17 +28,49 @@ pub struct Comparison {
     // copies and parities that were compared, sector by sector
     pub data: u64,
     pub parities: u64,
-    // of these, how many lie elsewhere in the layout
+    // of these, how many lie elsewhere in the layout, and how many lie where another one does that was compared before
     pub differing: u64,
-    // sectors and copies that the layout has and the recording lacks, or the other way round
+    pub doubled: u64,
+    // copies and parities that the layout has and the recording lacks
     pub missing: u64,
     // whether md made just as many sectors of it
     pub same_capacity: bool,
 }
 
 impl Comparison {
-    pub fn agrees(&self) -> bool {
-        self.differing == 0 && self.missing == 0 && self.same_capacity
+    // Whether the recording names each place of the layout once, and with what lies there.
+    pub fn agrees(&self) -> bool
+        ensures { result ≡ agreed self.now }
+    {
+        (self.differing == 0 && self.doubled == 0) && (self.missing == 0 && self.same_capacity)
+    }
+}
+
+// why a text is not compared
+#[derive(Clone, Copy, PartialEq, Eq, Debug)]
+pub enum NoRecording {
+    FirstLine,
+    OutOfLimits,
+    Line,
+    OutOfMemory,
+}
+
+impl fmt::Display for NoRecording {
+    fn fmt<W: fmt::Write>(&self, f: &mut fmt::Formatter<W>) -> fmt::Result {
+        match self {
+            NoRecording::FirstLine => write!(f, "its first line names no layout"),
+            NoRecording::OutOfLimits => write!(f, "its layout is out of limits"),
+            NoRecording::Line => write!(f, "a line of it tells no place"),
+            NoRecording::OutOfMemory => write!(f, "out of memory"),
+        }
+    }
+}
+
+impl Error for NoRecording {}
+
+impl<T: Drop> From<AllocFailed<T>> for NoRecording {
+    fn from(_failed: AllocFailed<T>) -> NoRecording {
+        NoRecording::OutOfMemory
     }
 }
 
@@ -70,8 +111,8 @@ where
     word?.parse().ok()
 }
 
-// The layout that a first line tells of.
-fn first_line(line: &str) -> Option<Recorded> {
+// The label and the capacity that a first line tells.
+fn header(line: &str) -> Option<(Label, u64)> {
     let mut words = line.split(' ');
     if words.next()? != "#" {
         return None;
@@ -83,12 +124,49 @@ fn first_line(line: &str) -> Option<Recorded> {
     let offered = parsed::<u64>(words.next())?;
     let capacity = parsed(words.next())?;
     let depth = offered - offered.checked_rem(u64::from(chunk))?;
-    let label = Label::stock(kind, members, copies, chunk, depth);
-    Some(Recorded {
-        layout: Stock::from_label(&label).ok()?,
-        chunk: u64::from(chunk),
+    Some((Label::stock(kind, members, copies, chunk, depth), capacity))
+}
+
+// The layout that a first line tells of.
+fn first_line(line: &str) -> Result<Recorded, NoRecording> {
+    let Some((label, capacity)) = header(line) else {
+        return Err(NoRecording::FirstLine);
+    };
+    let Ok(layout) = Stock::from_label(&label) else {
+        return Err(NoRecording::OutOfLimits);
+    };
+    Ok(Recorded {
+        layout,
+        chunk: u64::from(label.chunk),
         capacity,
     })
+}
+
+// what a line tells: the first sector of a chunk of data or of parity, and its place
+#[derive(Clone, Copy)]
+enum Told {
+    Datum(u64, Place),
+    Parity(Place),
+    Remark,
+}
+
+// None where it is no line of a recording.
+fn read_line(line: &str) -> Option<Told> {
+    let mut words = line.split(' ');
+    match words.next()? {
+        "D" => {
+            let sector = parsed(words.next())?;
+            let _copy = parsed::<u64>(words.next())?;
+            let place = (parsed(words.next())?, parsed(words.next())?);
+            Some(Told::Datum(sector, place))
+        }
+        "P" => {
+            let place = (parsed(words.next())?, parsed(words.next())?);
+            Some(Told::Parity(place))
+        }
+        "#" => Some(Told::Remark),
+        _ => None,
+    }
 }
 
 // Whether the layout has a sector at a place: the place names its owner, and the owner its place.
@@ -101,65 +179,90 @@ fn has_parity(layout: &Stock, at: Place) -> bool {
     matches!(layout.owner(at), Owner::Parity { group } if layout.parity(group) == at)
 }
 
-// How many sectors of the chunk at a place do not lie where the recording has them; `lies` tells of one, by its number in the chunk.
-fn elsewhere<F: Fn(u64, Place) -> bool>(chunk: u64, place: Place, lies: F) -> u64
-    requires { F.IsAlwaysCallable lies }
-{
-    (0..chunk)
-        .filter(|&i| !lies(i, (place.0, place.1.saturating_add(i))))
-        .count() as u64
-}
-
-// What one line adds; None where it is no line of a recording.
-fn compare_line(recorded: &Recorded, line: &str, so_far: Comparison) -> Option<Comparison> {
-    let mut words = line.split(' ');
-    let mut next = so_far;
-    match words.next()? {
-        "D" => {
-            let sector = parsed::<u64>(words.next())?;
-            let _copy = parsed::<u64>(words.next())?;
-            let place = (parsed(words.next())?, parsed(words.next())?);
-            let differing = elsewhere(recorded.chunk, place, |i, at| {
-                has_datum(&recorded.layout, sector.saturating_add(i), at)
-            });
-            next.data = next.data.saturating_add(recorded.chunk);
-            next.differing = next.differing.saturating_add(differing);
-        }
-        "P" => {
-            let place = (parsed(words.next())?, parsed(words.next())?);
-            let differing = elsewhere(recorded.chunk, place, |_, at| {
-                has_parity(&recorded.layout, at)
-            });
-            next.parities = next.parities.saturating_add(recorded.chunk);
-            next.differing = next.differing.saturating_add(differing);
-        }
-        "#" => {}
-        _ => return None,
-    }
-    Some(next)
-}
-
 // How many copies and parities the layout has.
-fn expected(layout: &Stock) -> (u64, u64) {
+fn expected(layout: &Stock) -> u64 {
     let data = layout.capacity().saturating_mul(layout.copies());
     let parities = layout.group(0).map_or(0, |_| layout.depth());
-    (data, parities)
+    data.saturating_add(parities)
 }
 
-// Compares a recording with the layout that its first line tells of; None where the text is no recording.
-pub fn compare(text: &str) -> Option<Comparison> {
+// a recording under way: what was found so far, and the places that lie where the layout has them
+#[derive(Drop)]
+struct Reading {
+    recorded: Recorded,
+    found: Comparison,
+    places: Vec<Place>,
+}
+
+impl Reading {
+    // Counts one place.
+    fn count(&mut self, lies: bool, at: Place) -> Result<(), NoRecording> {
+        if lies {
+            self.places.push(at)?;
+        } else {
+            self.found.differing = self.found.differing.saturating_add(1);
+        }
+        Ok(())
+    }
+
+    // A chunk of data from a sector on.
+    fn add_data(&mut self, sector: u64, place: Place) -> Result<(), NoRecording> {
+        for i in 0..self.recorded.chunk {
+            let at = (place.0, place.1.saturating_add(i));
+            let lies = has_datum(&self.recorded.layout, sector.saturating_add(i), at);
+            self.count(lies, at)?;
+        }
+        self.found.data = self.found.data.saturating_add(self.recorded.chunk);
+        Ok(())
+    }
+
+    // A chunk of parity.
+    fn add_parity(&mut self, place: Place) -> Result<(), NoRecording> {
+        for i in 0..self.recorded.chunk {
+            let at = (place.0, place.1.saturating_add(i));
+            let lies = has_parity(&self.recorded.layout, at);
+            self.count(lies, at)?;
+        }
+        self.found.parities = self.found.parities.saturating_add(self.recorded.chunk);
+        Ok(())
+    }
+
+    fn add_line(&mut self, line: &str) -> Result<(), NoRecording> {
+        match read_line(line) {
+            Some(Told::Datum(sector, place)) => self.add_data(sector, place),
+            Some(Told::Parity(place)) => self.add_parity(place),
+            Some(Told::Remark) => Ok(()),
+            None => Err(NoRecording::Line),
+        }
+    }
+
+    // Each place of the layout is to be there once.
+    fn whole(mut self) -> Comparison {
+        let named = self.places.len() as u64;
+        self.places.sort_unstable();
+        self.places.dedup();
+        let different = self.places.len() as u64;
+        Comparison {
+            doubled: named.saturating_sub(different),
+            missing: expected(&self.recorded.layout).saturating_sub(different),
+            same_capacity: self.recorded.capacity == self.recorded.layout.capacity(),
+            ..self.found
+        }
+    }
+}
+
+// Compares a recording with the layout that its first line tells of.
+pub fn compare(heap: Global, text: &str) -> Result<Comparison, NoRecording> {
     let mut lines = text.lines();
-    let recorded = first_line(lines.next()?)?;
-    let start = Comparison {
-        same_capacity: recorded.capacity == recorded.layout.capacity(),
-        ..Comparison::default()
+    let mut reading = Reading {
+        recorded: first_line(lines.next().unwrap_or(""))?,
+        found: Comparison::default(),
+        places: Vec::new(heap),
     };
-    let mut result = lines.try_fold(start, |so_far, line| compare_line(&recorded, line, so_far))?;
-    let (data, parities) = expected(&recorded.layout);
-    result.missing = data
-        .abs_diff(result.data)
-        .saturating_add(parities.abs_diff(result.parities));
-    Some(result)
+    for line in lines {
+        reading.add_line(line)?;
+    }
+    Ok(reading.whole())
 }
 
 #[cfg(test)]
@@ -170,34 +273,100 @@ mod tests {
     const GOOD: &str =
         "# near 3 2 1 2 3\nD 0 0 0 0\nD 0 1 1 0\nD 1 0 2 0\nD 1 1 0 1\nD 2 0 1 1\nD 2 1 2 1\n";
 
+    // A damaged number each, the place, the sector and the capacity; a line left out, and a line in another one's stead.
+    const PLACE: &str =
+        "# near 3 2 1 2 3\nD 0 0 0 0\nD 0 1 1 0\nD 1 0 2 0\nD 1 1 0 0\nD 2 0 1 1\nD 2 1 2 1\n";
+
+    const SECTOR_AMISS: &str =
+        "# near 3 2 1 2 3\nD 0 0 0 0\nD 0 1 1 0\nD 2 0 2 0\nD 1 1 0 1\nD 2 0 1 1\nD 2 1 2 1\n";
+
+    const CAPACITY: &str =
+        "# near 3 2 1 2 4\nD 0 0 0 0\nD 0 1 1 0\nD 1 0 2 0\nD 1 1 0 1\nD 2 0 1 1\nD 2 1 2 1\n";
+
+    const SHORT: &str = "# near 3 2 1 2 3\nD 0 0 0 0\nD 0 1 1 0\nD 1 0 2 0\nD 1 1 0 1\nD 2 0 1 1\n";
+
+    const DOUBLED: &str =
+        "# near 3 2 1 2 3\nD 0 0 0 0\nD 0 1 1 0\nD 1 0 2 0\nD 1 1 0 1\nD 2 0 1 1\nD 0 0 0 0\n";
+
     #[test]
-    fn a_recording_agrees(rt: HostRuntime) -> Result<(), Fail> {
-        let found = compare(GOOD).ok_or("no recording")?;
-        assert!(rt; found.agrees());
-        assert_eq!(rt; found.data, 6);
-        Ok(())
+    fn recordings(rt: HostRuntime) {
+        let whole = Comparison {
+            data: 6,
+            same_capacity: true,
+            ..Comparison::default()
+        };
+        for (text, due) in [
+            (GOOD, whole),
+            (
+                PLACE,
+                Comparison {
+                    differing: 1,
+                    missing: 1,
+                    ..whole
+                },
+            ),
+            (
+                SECTOR_AMISS,
+                Comparison {
+                    differing: 1,
+                    missing: 1,
+                    ..whole
+                },
+            ),
+            (
+                CAPACITY,
+                Comparison {
+                    same_capacity: false,
+                    ..whole
+                },
+            ),
+            (
+                SHORT,
+                Comparison {
+                    data: 5,
+                    missing: 1,
+                    ..whole
+                },
+            ),
+            (
+                DOUBLED,
+                Comparison {
+                    doubled: 1,
+                    missing: 1,
+                    ..whole
+                },
+            ),
+        ] {
+            let found = compare(rt.alloc(), text);
+            assert_eq!(rt; found, Ok(due));
+            assert_eq!(rt; found.is_ok_and(|found| found.agrees()), due == whole);
+        }
     }
 
-    // One damaged number each: a place, a sector, the capacity; and a line left out.
     #[test]
-    fn a_damaged_recording_differs(rt: HostRuntime) -> Result<(), Fail> {
-        let place = compare(
-            "# near 3 2 1 2 3\nD 0 0 0 0\nD 0 1 1 0\nD 1 0 2 0\nD 1 1 0 0\nD 2 0 1 1\nD 2 1 2 1\n",
-        );
-        assert_eq!(rt; place.ok_or("no recording")?.differing, 1);
-        let sector = compare(
-            "# near 3 2 1 2 3\nD 0 0 0 0\nD 0 1 1 0\nD 2 0 2 0\nD 1 1 0 1\nD 2 0 1 1\nD 2 1 2 1\n",
-        );
-        assert_eq!(rt; sector.ok_or("no recording")?.differing, 1);
-        let capacity = compare(
-            "# near 3 2 1 2 4\nD 0 0 0 0\nD 0 1 1 0\nD 1 0 2 0\nD 1 1 0 1\nD 2 0 1 1\nD 2 1 2 1\n",
-        );
-        assert!(rt; !capacity.ok_or("no recording")?.agrees());
-        let short = compare(
-            "# near 3 2 1 2 3\nD 0 0 0 0\nD 0 1 1 0\nD 1 0 2 0\nD 1 1 0 1\nD 2 0 1 1\n",
-        );
-        assert_eq!(rt; short.ok_or("no recording")?.missing, 1);
-        assert!(rt; compare("# near 3 2 1 2 3\nD 0 0 0\n").is_none());
+    fn no_recordings(rt: HostRuntime) {
+        for (text, due) in [
+            ("", NoRecording::FirstLine),
+            ("# mirror 3 2 1 2 3\n", NoRecording::FirstLine),
+            ("# near 3 4 1 2 3\nD 0 0 0 0\n", NoRecording::OutOfLimits),
+            ("# near 3 2 1 2 3\nD 0 0 0\n", NoRecording::Line),
+        ] {
+            assert_eq!(rt; compare(rt.alloc(), text), Err(due));
+        }
+    }
+
+    // A run over no files, over one that agrees, over one that does not, and over one that is no recording and then one that agrees.
+    #[test]
+    fn runs(rt: HostRuntime) -> Result<(), Fail> {
+        let none = Totals::default();
+        let good = none.compared(compare(rt.alloc(), GOOD)?);
+        assert!(rt; !none.all_agree());
+        assert!(rt; good.all_agree());
+        let doubled = none.compared(compare(rt.alloc(), DOUBLED)?);
+        assert!(rt; !doubled.all_agree());
+        let mixed = none.left_out().compared(compare(rt.alloc(), GOOD)?);
+        assert!(rt; !mixed.all_agree());
+        assert_eq!(rt; (mixed.recordings, mixed.left_out), (1, 1));
         Ok(())
     }
 }

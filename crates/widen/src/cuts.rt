@@ -3,7 +3,7 @@ use crate::tour::{Plan, Tour, tell};
 use answer::Refused;
 use anyhow::anyhow;
 use layout::Layout;
-use shelf::trial::{Cut, TrialShelf};
+use shelf::trial::{Control, Cut, TrialShelf};
 use volume::Volume;
 
 impl Tour<TrialShelf> {
@@ -40,7 +40,7 @@ impl Tour<TrialShelf> {
         cut: Cut,
     ) -> anyhow::Result<Tour<TrialShelf>> {
         let next = self.next_version();
-        self.volume.shelf_mut().set_cut(cut);
+        self.volume.control(Control::Cut(cut))?;
         let result = self.attempt(sector);
         tell(rt, format_args!("write {sector}, power cut"), result)?;
         let mut opened = self.reopened(rt)?;
@@ -74,7 +74,7 @@ impl Tour<TrialShelf> {
     // Cuts the power in a copy. The row is not in hand after the next open.
     pub fn cut_copy(mut self, rt: &HostRuntime, cut: Cut) -> anyhow::Result<Tour<TrialShelf>> {
         self.make_ready(rt)?;
-        self.volume.shelf_mut().set_cut(cut);
+        self.volume.control(Control::Cut(cut))?;
         let result = self.try_copy();
         tell(rt, "copy, power cut", result)?;
         let mut opened = self.reopened(rt)?;
@@ -88,8 +88,9 @@ impl Tour<TrialShelf> {
         match self.volume.copy() {
             Ok(grant) => {
                 let row = grant.row();
-                self.volume.shelf_mut().set_cut(cut);
+                let set = self.volume.control(Control::Cut(cut));
                 let result = self.volume.settle(grant);
+                set?;
                 tell(rt, format_args!("settle row {row}, power cut"), result)?;
             }
             Err(refused) => println!(rt; "copy: {refused}")?,
@@ -102,8 +103,7 @@ impl Tour<TrialShelf> {
     // Has a member be lost at its next operation.
     pub fn lose(&mut self, rt: &HostRuntime, member: u64) -> anyhow::Result<()> {
         self.volume
-            .shelf_mut()
-            .lose(member)
+            .control(Control::Loss(member))
             .map_err(|_| anyhow!("there is no member {member}"))?;
         println!(rt; "member {member} is lost")?;
         Ok(())

@@ -18,7 +18,7 @@ use tour::{Plan, Tally, Tour};
 
 const SECTORS: u64 = 48;
 
-// A layout of each of the two kinds that the program moves most: a kind at each call would be no plainer.
+// The two kinds that the program moves most.
 fn striped(members: u8, chunk: u32, depth: u64) -> Result<Stock, Refusal> {
     Stock::from_label(&Label::stock(Kind::Striped, members, 1, chunk, depth))
 }
@@ -51,7 +51,7 @@ fn widen_plain(rt: &HostRuntime) -> anyhow::Result<Tally> {
     Ok(tour.tally)
 }
 
-// A cut after so many operations that no unsettled sector survives.
+// A cut after so many operations that no sector survives that is not durable.
 fn dark_after(fuse: u32) -> Cut {
     Cut { fuse, choice: 0 }
 }
