@@ -1,6 +1,6 @@
 // What tells the stock kinds from one another: where each puts its chunks, as if a chunk were one sector.
 ghost use Rattle.std.specs.Prelude.{◌≡◌, ◌<◌};
-ghost use Rattle.layout.specs.Geometry.{Geometry, capacity as room};
+ghost use Rattle.layout.specs.Geometry.{Geometry, capacity};
 ghost use Rattle.layout.specs.declared.kind.Kind.{Kind};
 ghost use Rattle.kinds.specs.Cellular.{Cellular, ParityAt, grid_label};
 ghost use Rattle.kinds.specs.Chunked.{chunked};
@@ -39,7 +39,7 @@ pub trait Cells {
 
     // Where a copy of a chunk lies.
     fn place(&self, number: u64, copy: u64) -> Place
-        requires { (number < room (cells self.now)) × (copy < (cells self.now).copies) }
+        requires { (number < capacity (cells self.now)) × (copy < (cells self.now).copies) }
         ensures { result ≡ (cells self.now).datum number copy };
 
     // The member with the parity of a row, where the kind has parity.

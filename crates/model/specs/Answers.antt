@@ -13,24 +13,33 @@ use Rattle.shelf.specs.Meaning.{Meaning}
 use Rattle.head.specs.Checkpoints.{Next}
 use Rattle.head.specs.declared.state.Head.{Head}
 use Rattle.model.specs.Crew.{crew}
-use Rattle.model.specs.Ends.{Met}
+use Rattle.model.specs.Ends.{GoesOn, Met}
+use Rattle.model.specs.Faults.{NamesSector}
 use Rattle.model.specs.declared.phase.Phase.TheVariants.{Before, Shut}
 use Rattle.model.specs.declared.request.Request.{Request}
 use Rattle.model.specs.declared.request.Request.TheVariants.{Read, Write, Begin, Keep, Copy, Settle, HandBack, Finish, Open}
 use Rattle.model.specs.Effects.{CreateTorn, CreatedBy, DoneBy, First, HeadAfter, MetBy, known_after}
 use Rattle.model.specs.Handed.{Handed}
-use Rattle.model.specs.Handed.Handed.{Nothing, Distance, Row, Counts}
+use Rattle.model.specs.Handed.Handed.{Nothing, Buffer, Distance, Row, Counts}
 use Rattle.model.specs.Knowing.{Volume, volume}
 use Rattle.model.specs.Opening.{GoesDark, Searched, StaysOff, open_verdict}
+use Rattle.model.specs.Reading.{content_of}
 use Rattle.model.specs.Reopening.{Disarmed, OpenTorn, OpensTo, TakenUp, opened_crew, opened_volume}
+use Rattle.model.specs.Steps.{SeenBy}
 use Rattle.model.specs.Verdicts.{create_verdict, emptied, shut_for}
 
--- what a granted call hands out: an overlap distance, a grant of a row, the settled and the kept rows, or nothing of these
+-- what a granted call other than a read hands out: an overlap distance, a grant of a row, the settled and the kept rows, or nothing of these
 abbrev pub handed_out : Request → Volume → Handed
 handed_out Begin v = Distance (distance_of v.crew.source v.crew.target v.size)
 handed_out Copy v = Row v.settled
 handed_out Finish v = Counts v.crew.target.rows v.kept
 handed_out r v = Nothing
+
+-- A read hands out its buffer, with what was seen of the sector.
+abbrev pub HandsOver : Request → Volume → (a b : Meaning) → Handed → Type 0
+HandsOver (Read i) v a b (Buffer x) = SeenBy v.crew a b (λ m. content_of v m i) x
+HandsOver (Read i) v a b hands = ⊥
+HandsOver r v a b hands = hands ≡ handed_out r v
 
 -- the row that a call is about
 abbrev pub row_about : Request → Volume → Option ℕ
@@ -39,22 +48,22 @@ row_about Copy v = Some v.settled
 row_about (Settle row) v = Some v.settled
 row_about r v = None
 
--- The operations of a call. A read only reads, a call that is one checkpoint reads nothing, and none but an open restarts.
+-- The operations of a call once its verdict is told. A read only reads, a call that is one checkpoint reads nothing, and none restarts: open does so before.
 abbrev pub operates : Request → Operation → Bool
 operates (Read i) Reads = true
 operates (Read i) o = false
 operates (HandBack row) o = false
-operates Open o = true
 operates r Restart = false
 operates Begin Reads = false
 operates (Settle row) Reads = false
 operates Finish Reads = false
 operates r o = true
 
--- an operation of a call, with the row that it is about, on a member that was there
+-- an operation of a call, with the row that it is about, on a member that was there and a sector that it has
 pub record InCall (r : Request) (about : Option ℕ) (a : Meaning) (f : Fault) : Type 0 where
   pub operation : operates r f.operation ≡ true
   pub there : a.present f.member ≡ true
+  pub sector : NamesSector f.operation f.sector a
   pub row : f.row ≡ about
 
 -- refused before the first operation, by the verdict
@@ -78,12 +87,14 @@ abbrev pub HeadLeft : Request → Head → Head → Type 0
 HeadLeft (Write i x) h k = (k ≡ h) ⊎ Next h h.source h.progress (Some i) k
 HeadLeft r h k = k ≡ h
 
--- done, told without the sectors: the verdict is none, the head is the next one, and so is what the volume knows and hands out
-pub record GrantedBy (verdict : Option Refusal) (r : Request) (l : Label) (v : Volume) (h : Head) (u : Volume) (k : Head) (hands : Handed) : Type 0 where
+-- Done, told without the sectors: the verdict is none, power and members were enough to the end, the head is the next one, and so is what the volume knows
+-- and hands out.
+pub record GrantedBy (verdict : Option Refusal) (r : Request) (l : Label) (v : Volume) (h : Head) (a : Meaning) (u : Volume) (k : Head) (b : Meaning) (hands : Handed) : Type 0 where
   pub by : verdict ≡ None
+  pub goes : GoesOn v.crew a b
   pub head : HeadAfter r v l h k
   pub known : u ≡ known_after r v k
-  pub out : hands ≡ handed_out r v
+  pub out : HandsOver r v a b hands
 
 -- met, told without the sectors: power or members lack on the shelf, at an operation of the call
 pub record MetAt (verdict : Option Refusal) (r : Request) (v : Volume) (h : Head) (a : Meaning) (u : Volume) (k : Head) (b : Meaning) (e : Refused) : Type 0 where
@@ -96,43 +107,40 @@ pub record MetAt (verdict : Option Refusal) (r : Request) (v : Volume) (h : Head
 -- the grant matches, `out` what an answer hands out.
 abbrev pub Ended : {A : Type 0} → Option Refusal → (same : Type 0) → (out : A → Handed) → Request → Label
     → (v : Volume) → (h : Head) → (a : Meaning) → (u : Volume) → (k : Head) → (b : Meaning) → Result A Refused → Type 0
-Ended verdict same out r l v h a u k b (Ok x) = GrantedBy verdict r l v h u k (out x)
+Ended verdict same out r l v h a u k b (Ok x) = GrantedBy verdict r l v h a u k b (out x)
 Ended verdict same out r l v h a u k b (Err e) = TurnedAway verdict same e ⊎ MetAt verdict r v h a u k b e
 
 -- the same with the sectors
 abbrev pub Came : {A : Type 0} → Option Refusal → (same : Type 0) → (out : A → Handed) → Request → Label
     → (v : Volume) → (h : Head) → (a : Meaning) → (u : Volume) → (k : Head) → (b : Meaning) → Result A Refused → Type 0
-Came verdict same out r l v h a u k b (Ok x) = GrantedBy verdict r l v h u k (out x) × DoneBy r v l h a b k
+Came verdict same out r l v h a u k b (Ok x) = GrantedBy verdict r l v h a u k b (out x) × DoneBy r v l h a b k
 Came verdict same out r l v h a u k b (Err e) = TurnedAway verdict same e ⊎ (MetAt verdict r v h a u k b e × MetBy r v l h a b)
-
--- create writes and flushes, and reads nothing
-pub record InCreate (a : Meaning) (f : Fault) : Type 0 where
-  pub operation : operates Begin f.operation ≡ true
-  pub there : a.present f.member ≡ true
-  pub row : f.row ≡ None
 
 -- a create or an open that was refused leaves a volume that is shut
 pub record ShutFor (s t : Geometry) (e : Refused) (u : Volume) : Type 0 where
   pub crew : u.crew ≡ crew (Shut (shut_for e.refusal)) s t
   pub hand : u.hand ≡ None
 
-pub record CreateGranted (verdict : Option Refusal) (l : Label) (s t : Geometry) (size backup : ℕ) (u : Volume) (k : Head) : Type 0 where
+-- done: the first head stands, and power and members were enough to the end
+pub record CreateGranted (verdict : Option Refusal) (l : Label) (s t : Geometry) (size backup : ℕ) (a : Meaning) (u : Volume) (k : Head) (b : Meaning) : Type 0 where
   pub by : verdict ≡ None
+  pub goes : GoesOn (crew Before s t) a b
   pub first : First l size backup k
   pub known : u ≡ volume Before s t k None
 
+-- met at a write or a flush, as those of begin
 pub record CreateMet (verdict : Option Refusal) (s t : Geometry) (a b : Meaning) (e : Refused) : Type 0 where
   pub by : verdict ≡ None
-  pub met : Met (crew Before s t) (InCreate a) b e
+  pub met : Met (crew Before s t) (InCall Begin None a) b e
 
 -- a create of a volume of this size, with these layouts and so many slots
 abbrev pub CreateEnded : (same : Type 0) → Label → (s t : Geometry) → (size backup : ℕ) → (a : Meaning) → (u : Volume) → (k : Head) → (b : Meaning) → Result Unit Refused → Type 0
-CreateEnded same l s t size backup a u k b (Ok x) = CreateGranted (create_verdict l s a backup size) l s t size backup u k
+CreateEnded same l s t size backup a u k b (Ok x) = CreateGranted (create_verdict l s a backup size) l s t size backup a u k b
 CreateEnded same l s t size backup a u k b (Err e) =
     ShutFor s t e u × (TurnedAway (create_verdict l s a backup size) same e ⊎ CreateMet (create_verdict l s a backup size) s t a b e)
 
 abbrev pub CreateCame : (same : Type 0) → Label → (s t : Geometry) → (size backup : ℕ) → (a : Meaning) → (u : Volume) → (k : Head) → (b : Meaning) → Result Unit Refused → Type 0
-CreateCame same l s t size backup a u k b (Ok x) = CreateGranted (create_verdict l s a backup size) l s t size backup u k × CreatedBy s l size backup a b k
+CreateCame same l s t size backup a u k b (Ok x) = CreateGranted (create_verdict l s a backup size) l s t size backup a u k b × CreatedBy s l size backup a b k
 CreateCame same l s t size backup a u k b (Err e) =
     ShutFor s t e u × (TurnedAway (create_verdict l s a backup size) same e ⊎ (CreateMet (create_verdict l s a backup size) s t a b e × CreateTorn s l size backup a b))
 
@@ -143,10 +151,12 @@ pub record OpenRefused (sl tl : Label) (s t : Geometry) (a b : Meaning) (e : Ref
   pub searched : Searched a mid found
   pub answer : TurnedAway (open_verdict found mid sl tl s t) (b ≡ mid) e
 
-pub record OpenGranted (sl tl : Label) (s t : Geometry) (a : Meaning) (u : Volume) (k : Head) : Type 0 where
+-- done: it went on from the head that was found, and power and members were enough to the end
+pub record OpenGranted (sl tl : Label) (s t : Geometry) (a : Meaning) (u : Volume) (k : Head) (b : Meaning) : Type 0 where
   pub head : Head
   pub mid : Meaning
   pub taken : TakenUp sl tl s t a mid head
+  pub goes : GoesOn (opened_crew s t head) mid b
   pub last : Disarmed head.armed head k
   pub known : u ≡ opened_volume s t k
 
@@ -158,7 +168,7 @@ pub record OpenMet (sl tl : Label) (s t : Geometry) (a b : Meaning) (e : Refused
   pub met : Met (opened_crew s t head) (InCall Open None mid) b e
 
 abbrev pub OpenEnded : (sl tl : Label) → (s t : Geometry) → (a : Meaning) → (u : Volume) → (k : Head) → (b : Meaning) → Result Unit Refused → Type 0
-OpenEnded sl tl s t a u k b (Ok x) = OpenGranted sl tl s t a u k
+OpenEnded sl tl s t a u k b (Ok x) = OpenGranted sl tl s t a u k b
 OpenEnded sl tl s t a u k b (Err e) = ShutFor s t e u × (StaysOff a b e ⊎ (GoesDark a b e ⊎ (OpenRefused sl tl s t a b e ⊎ OpenMet sl tl s t a b e)))
 
 -- the same with the sectors

@@ -1,9 +1,15 @@
 -- The operations that a fault names.
 use Rattle.std.specs.Prelude.{◌≡◌, ℕ, ◌<◌, true, ◌⊎◌, None}
 use Rattle.answer.specs.declared.Operation.{Operation}
-use Rattle.answer.specs.declared.Operation.TheVariants.{Write, Flush}
+use Rattle.answer.specs.declared.Operation.TheVariants.{Read, Write, Flush}
 use Rattle.answer.specs.declared.Fault.{Fault}
 use Rattle.shelf.specs.Meaning.{Meaning}
+
+-- The sector that a fault of an operation names: one that the shelf has. A flush and a restart are of none, and name 0.
+abbrev pub NamesSector : Operation → ℕ → Meaning → Type 0
+NamesSector Read t a = t < a.sectors
+NamesSector Write t a = t < a.sectors
+NamesSector o t a = t ≡ 0
 
 -- an operation on a sector of a member that was there
 pub record OnCell (op : Operation) (a : Meaning) (m t : ℕ) (f : Fault) : Type 0 where
@@ -11,6 +17,7 @@ pub record OnCell (op : Operation) (a : Meaning) (m t : ℕ) (f : Fault) : Type 
   pub member : f.member ≡ m
   pub there : a.present f.member ≡ true
   pub sector : f.sector ≡ t
+  pub inside : NamesSector op t a
   pub row : f.row ≡ None
 
 -- an operation on a sector of some member that the shelf has, and that was there
@@ -19,6 +26,7 @@ pub record OnSector (op : Operation) (a : Meaning) (t : ℕ) (f : Fault) : Type 
   pub member : f.member < a.members
   pub there : a.present f.member ≡ true
   pub sector : f.sector ≡ t
+  pub inside : NamesSector op t a
   pub row : f.row ≡ None
 
 -- an operation of one kind or of another

@@ -6,6 +6,7 @@ use Rattle.layout.specs.Geometry.{Geometry}
 use Rattle.overlap.specs.Needs.{distance_of, need_of}
 use Rattle.overlap.specs.Rows.{LiveRows}
 use Rattle.shelf.specs.Meaning.{Meaning}
+use Rattle.head.specs.declared.state.Head.{Head}
 use Rattle.model.specs.Crew.{borne}
 use Rattle.model.specs.declared.phase.Phase.TheVariants.{Moving}
 use Rattle.model.specs.declared.told.Told.{Told}
@@ -16,9 +17,9 @@ use Rattle.model.specs.declared.request.Answered.TheVariants.{Granted, Refused, 
 use Rattle.model.specs.Disks.{Disk, after, created, each, granted}
 use Rattle.model.specs.Handed.{Handed}
 use Rattle.model.specs.Handed.Handed.{Nothing, Buffer, Distance, Row, Counts}
+use Rattle.model.specs.Heads.{LedBy}
 use Rattle.model.specs.Knowing.{Volume}
 use Rattle.model.specs.Strays.{misplaced_count, stray_count}
-use Rattle.model.specs.Verdicts.{is_held}
 use Rattle.head.specs.declared.TheConstants.{MOST_NUMBER}
 
 -- a volume, by what it knows of itself, and its shelf at one moment
@@ -71,16 +72,17 @@ chosen s t a backup v first [] = first
 chosen s t a backup v first (d ∷ ds) = cond (stray_count s t a backup v d == 0) d (chosen s t a backup v first ds)
 
 -- What an onlooker keeps of a run: the layouts that create or a granted open was given last, the backup slots, the disks that the volume
--- may show, and whether the stray count is taken.
+-- may show, whether the stray count is taken, and whether the volume is in use.
 pub record Account : Type 0 where
   pub source : Geometry
   pub target : Geometry
   pub backup : ℕ
   pub disks : List Disk
   pub taken : Bool
+  pub in_use : Bool
 
 abbrev pub account_of : Creation → Account
-account_of c = record { source = c.source; target = c.target; backup = c.backup; disks = created c.size ∷ []; taken = true }
+account_of c = record { source = c.source; target = c.target; backup = c.backup; disks = created c.size ∷ []; taken = true; in_use = true }
 
 abbrev pub is_open : Request → Bool
 is_open Open = true
@@ -109,6 +111,10 @@ disks_after c backup ds = disks_by c.request (answered_of c.result) c backup ds
 abbrev pub taken_after : Called → Bool → Bool
 taken_after c taken = cond (is_open c.request) (is_granted (answered_of c.result)) (taken && not (is_met (answered_of c.result)))
 
+-- The volume is in use from a granted create or open on, until an open is refused.
+abbrev pub in_use_after : Called → Bool → Bool
+in_use_after c in_use = cond (is_open c.request) (is_granted (answered_of c.result)) in_use
+
 abbrev pub granted_open : Called → Bool
 granted_open c = is_open c.request && is_granted (answered_of c.result)
 
@@ -119,13 +125,16 @@ account_after c a = record {
   backup = a.backup;
   disks = disks_after c a.backup a.disks;
   taken = taken_after c a.taken;
+  in_use = in_use_after c a.in_use;
 }
 
--- The step of a move: finish when every row is settled, else copy unless the next row needs one more kept, else keep.
+-- The call that a move needs next: settle while a row is in hand; else finish when every row is settled, copy unless the next row needs one more kept, and
+-- keep if it does.
 abbrev pub due : Request → (source target : Geometry) → Disk → Type 0
-due Finish s t d = d.settled ≡ t.rows
-due Copy s t d = (d.settled < t.rows) × (need_of s t d.size d.settled ≤ d.kept)
-due Keep s t d = (d.settled < t.rows) × (d.kept < need_of s t d.size d.settled)
+due (Settle row) s t d = d.hand ≡ Some row
+due Finish s t d = (d.hand ≡ None) × (d.settled ≡ t.rows)
+due Copy s t d = (d.hand ≡ None) × (d.settled < t.rows) × (need_of s t d.size d.settled ≤ d.kept)
+due Keep s t d = (d.hand ≡ None) × (d.settled < t.rows) × (d.kept < need_of s t d.size d.settled)
 due r s t d = ⊥
 
 -- a copy writes no head
@@ -133,16 +142,15 @@ abbrev pub takes_number : Request → Bool
 takes_number Copy = false
 takes_number r = true
 
--- The call is the step that is due, and nothing lacks, whatever it pleads: after it power is on and both layouts bear the losses, and before it
--- the volume had a number left.
-pub record StepDue (c : Called) (a : Account) (d : Disk) : Type 0 where
+-- The call is the one that is due, and nothing lacks, whatever it pleads: after it power is on and both layouts bear the losses, and before it
+-- no head that leads on the shelf has the last number.
+pub record CallDue (c : Called) (a : Account) (d : Disk) : Type 0 where
   pub moving : d.phase ≡ Moving
-  pub free : is_held d.hand ≡ false
-  pub step : due c.request a.source a.target d
+  pub next : due c.request a.source a.target d
   pub on : c.after.shelf.on ≡ true
   pub source : borne a.source c.after.shelf ≡ true
   pub target : borne a.target c.after.shelf ≡ true
-  pub number : takes_number c.request ≡ true → c.before.volume.number < MOST_NUMBER
+  pub number : takes_number c.request ≡ true → (h : Head) → LedBy c.before.shelf c.before.shelf.members h → h.number < MOST_NUMBER
 
 -- a finish counts the rows of the disk: all of the target's are settled, and no more are kept than are live
 pub record CountsRows (rows kept : ℕ) (a : Account) (d : Disk) : Type 0 where
@@ -181,7 +189,7 @@ strays_after c a = stray_count a.source a.target c.after.shelf a.backup (told_of
 pub record LawOfCall (c : Called) (a : Account) : Type 0 where
   pub count : taken_after c a.taken ≡ true → strays_after c (account_after c a) ≡ 0
   pub hands : HandedOut c.request c.result a (first_disk a.disks)
-  pub progress : a.taken ≡ true → StepDue c a (first_disk a.disks) → answered_of c.result ≡ Granted
+  pub progress : a.in_use ≡ true → CallDue c a (first_disk a.disks) → answered_of c.result ≡ Granted
   pub fresh : FreshAtEnd c.request (answered_of c.result) c (account_after c a)
 
 -- each call of a list keeps it

@@ -17,7 +17,7 @@ use Rattle.model.specs.Ends.{Cut, Names}
 use Rattle.model.specs.Heads.{LedBelow, HeadsRead}
 use Rattle.model.specs.May.{May, nothing}
 use Rattle.model.specs.Knowing.{phase_by}
-use Rattle.model.specs.Verdicts.{RefusedBy, first_refusal, fits}
+use Rattle.model.specs.Verdicts.{first_refusal, fits}
 use Rattle.head.specs.declared.TheConstants.{MOST_NUMBER}
 
 abbrev pub same_label : Label → Label → Bool
@@ -91,18 +91,3 @@ pub record GoesDark (a b : Meaning) (e : Refused) : Type 0 where
 abbrev pub Restarted : Meaning → Meaning → Result (Option Head) Refused → Type 0
 Restarted a b (Ok found) = Searched a b found
 Restarted a b (Err e) = StaysOff a b e ⊎ GoesDark a b e
-
--- A head was looked for, and where the verdict on it is a refusal, open answers that, names no operation, and has written nothing.
-pub record Answered (sl tl : Label) (s t : Geometry) (a b : Meaning) (r : Result Unit Refused) : Type 0 where
-  pub found : Option Head
-  pub after : Meaning
-  pub searched : Searched a after found
-  pub verdict : RefusedBy (open_verdict found after sl tl s t) (b ≡ after) r
-
-abbrev pub Darkened : Meaning → Meaning → Result Unit Refused → Type 0
-Darkened a b (Ok x) = ⊥
-Darkened a b (Err e) = StaysOff a b e ⊎ GoesDark a b e
-
--- Open on a shelf with these layouts: it answers by the head that leads, or found no power for the search.
-abbrev pub OpensBy : (sourceLabel targetLabel : Label) → (source target : Geometry) → Meaning → Meaning → Result Unit Refused → Type 0
-OpensBy sl tl s t a b r = Answered sl tl s t a b r ⊎ Darkened a b r

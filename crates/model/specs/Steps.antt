@@ -30,12 +30,10 @@ pub record SeenBy (w : Crew) (a b : Meaning) (f : Meaning → List ℕ) (x : Lis
   pub enough : enough w (seen_by there a) ≡ true
   pub is : x ≡ f (seen_by there a)
 
--- A step was carried out: who is there was there before, each of their sectors holds what the step makes of it, and all is durable.
+-- A step was carried out: nothing else was written, each sector of who is there holds what the step makes of it, and all is durable.
 pub record Passed (w : Crew) (f : Step) (a b : Meaning) : Type 0 where
-  pub members : b.members ≡ a.members
-  pub sectors : b.sectors ≡ a.sectors
+  pub may : May (λ k s x. x ≡ f a.current k s) a b
   pub goes : GoesOn w a b
-  pub were : (k : ℕ) → b.present k ≡ true → a.present k ≡ true
   pub current : (k s : ℕ) → b.present k ≡ true → s < b.sectors → b.current k s ≡ f a.current k s
   pub durable : (k s : ℕ) → b.present k ≡ true → b.durable k s ≡ b.current k s
 

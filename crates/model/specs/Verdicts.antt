@@ -149,11 +149,6 @@ Judged v (Err e) = v ≡ Some e
 abbrev pub RefusedBy : {A : Type 0} → Option Refusal → Type 0 → Result A Refused → Type 0
 RefusedBy v same r = (k : Refusal) → v ≡ Some k → (r ≡ Err (record { refusal = k; fault = None })) × same
 
--- hand back is done for the row in hand, and else refused
-abbrev pub HandedBack : Option ℕ → ℕ → Result Unit Refused → Type 0
-HandedBack hand row (Ok x) = is_hand hand row ≡ true
-HandedBack hand row (Err e) = (is_hand hand row ≡ false) × (e ≡ record { refusal = WrongGrant; fault = None })
-
 -- a volume that is not shut
 abbrev pub NotShut : Phase → Type 0
 NotShut (Shut why) = ⊥

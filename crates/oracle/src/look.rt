@@ -4,7 +4,7 @@ ghost use Rattle.std.specs.Prelude.{◌≡◌, ◌<◌, ◌≤◌, cond, nat_eq,
 ghost use Rattle.std.specs.Int.NonZero.{non_zero_u32_get};
 ghost use Rattle.std.specs.Str.{bytes_eq};
 ghost use Rattle.sector.specs.Folds.{folded};
-ghost use Rattle.layout.specs.Geometry.{capacity as room};
+ghost use Rattle.layout.specs.Geometry.{capacity};
 ghost use Rattle.model.specs.Contents.{at, differs, group_gone, group_shows_other, held, held_other, layout_shows_other, on_shelf, rebuilt, slot_shows_other};
 ghost use Rattle.oracle.specs.Looks.{NoGroup, Seen};
 
@@ -92,7 +92,7 @@ impl<'a, S: Image, L: Layout> View<'a, S, L> {
 
     // Where on the shelf a copy of a sector lies.
     fn copy(&self, sector: u64, copy: u64) -> Place
-        ensures { sector < room (L.Layout.geometry self.now.layout.now) → copy < (L.Layout.geometry self.now.layout.now).copies → result ≡ on_shelf self.now.backup ((L.Layout.geometry self.now.layout.now).datum sector copy) }
+        ensures { sector < capacity (L.Layout.geometry self.now.layout.now) → copy < (L.Layout.geometry self.now.layout.now).copies → result ≡ on_shelf self.now.backup ((L.Layout.geometry self.now.layout.now).datum sector copy) }
     {
         self.on_shelf(self.layout.place(sector, copy))
     }
@@ -118,7 +118,7 @@ impl<'a, S: Image, L: Layout> View<'a, S, L> {
 
     // Whether the group of a sector gives another content, or none.
     fn group_differs(&self, content: &Sector, sector: u64) -> bool
-        requires { sector < room (L.Layout.geometry self.now.layout.now) }
+        requires { sector < capacity (L.Layout.geometry self.now.layout.now) }
         ensures { result ≡ group_shows_other (L.Layout.geometry self.now.layout.now) (S.Shelf.meaning self.now.shelf.now) self.now.backup content.now sector }
     {
         self.group(sector).is_none_or(|group| group.is_gone(sector)

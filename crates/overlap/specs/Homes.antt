@@ -12,7 +12,7 @@ home_of a c p q i = cond (nat_lt i (p * c)) Target (cond (nat_lt i (q * a)) Back
 abbrev pub window_of : (a c p size q : ℕ) → ℕ
 window_of a c p size q = min (q * a) size - p * c
 
--- the sectors of source row q below the size that are not settled
+-- the sectors of source row q below the size that lie in no settled row
 pub record KeepSpan (a c p q size from to : ℕ) : Type 0 where
   pub end : to ≡ min ((q + 1) * a) size
   pub start : (i : ℕ) → i < to → from ≤ i → (q * a ≤ i) × (p * c ≤ i)

@@ -2,7 +2,7 @@
 #![tactic(auto)]
 
 ghost use Rattle.std.specs.Prelude.{◌≡◌, ℕ, ◌+◌, ◌-◌, ◌*◌, ◌/◌, ◌<◌, ◌≤◌};
-ghost use Rattle.layout.specs.Geometry.{capacity as room};
+ghost use Rattle.layout.specs.Geometry.{capacity};
 ghost use Rattle.overlap.specs.Homes.{window_of};
 ghost use Rattle.overlap.specs.Needs.{distance_of, need_by_led, most, need_of, need_by_place, reach_of, need_by_row, need_by_sector};
 ghost use Rattle.overlap.specs.Rows.{Highest, LiveRows, NeedIsHighest, NeedIsLive, OneHighest};
@@ -80,7 +80,7 @@ pub fn distance<Old: Layout, New: Layout>(source: &Old, target: &New, size: u64)
 
 // What one target sector needs: its copies, and the parity of its group where it leads one.
 fn sector_need<Old: Layout, New: Layout>(source: &Old, target: &New, size: u64, sector: u64) -> u64
-    ensures { sector < room (New.Layout.geometry target.now) → result ≡ need_by_sector (Old.Layout.geometry source.now) (New.Layout.geometry target.now) size sector }
+    ensures { sector < capacity (New.Layout.geometry target.now) → result ≡ need_by_sector (Old.Layout.geometry source.now) (New.Layout.geometry target.now) size sector }
 {
     greatest(0..target.copies(), |copy| {
         place_need(source, size, target.place(sector, copy))
@@ -90,7 +90,7 @@ fn sector_need<Old: Layout, New: Layout>(source: &Old, target: &New, size: u64, 
 
 // What the parity of the group needs that a target sector leads, or 0.
 fn parity_need<Old: Layout, New: Layout>(source: &Old, target: &New, size: u64, sector: u64) -> u64
-    ensures { sector < room (New.Layout.geometry target.now) → result ≡ need_by_led (Old.Layout.geometry source.now) (New.Layout.geometry target.now) size sector }
+    ensures { sector < capacity (New.Layout.geometry target.now) → result ≡ need_by_led (Old.Layout.geometry source.now) (New.Layout.geometry target.now) size sector }
 {
     led_group(target, sector).map_or(0, |group| {
         place_need(source, size, target.parity(group))
@@ -122,7 +122,7 @@ fn place_need<Old: Layout>(source: &Old, size: u64, place: Place) -> u64
 
 // One more than the row of a source sector, if it is live, else 0.
 fn row_need<Old: Layout>(source: &Old, size: u64, sector: u64) -> u64
-    requires { sector < room (Old.Layout.geometry source.now) }
+    requires { sector < capacity (Old.Layout.geometry source.now) }
     ensures { result ≡ need_by_row (Old.Layout.geometry source.now) size (sector / (Old.Layout.geometry source.now).row_len) }
 {
     let len = source.row_len();

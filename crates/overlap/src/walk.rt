@@ -107,7 +107,7 @@ impl Walk {
         end.saturating_sub(self.settled_end())
     }
 
-    // The sectors of the next source row that are to be kept: those below the size that are not settled.
+    // The sectors of the next source row that are to be kept: those below the size that lie in no settled row.
     pub fn next_kept(&self) -> Range<u64>
         ensures { KeepSpan self.now.source_len self.now.target_len self.now.settled self.now.kept self.now.size result.start result.end }
     {

@@ -7,8 +7,8 @@ use Rattle.shelf.specs.Runs.{sector_put}
 use Rattle.shelf.specs.Answers.{Answer}
 use Rattle.shelf.proofs.Cells.{cell_inside, cell_one, image_other, image_put}
 
-plain_kept : (m z : ℕ) (run new : List ℕ) (k : ℕ) → OthersStay k (plain_meaning m z run) (plain_meaning m z new)
-plain_kept m z run new k = record { members = refl; sectors = refl; off_stays = λ e. e; absent_stays = λ e. e; others = λ j ne. refl }
+plain_others : (m z : ℕ) (run new : List ℕ) (k : ℕ) → OthersStay k (plain_meaning m z run) (plain_meaning m z new)
+plain_others m z run new k = record { members = refl; sectors = refl; off_stays = λ e. e; absent_stays = λ e. e; others = λ j ne. refl }
 
 pub plain_writes : (k s : ℕ) (bytes : List ℕ) (a b : Plain) (r : Answer) → a.members * a.sectors * 512 ≤ length a.run → PlainWrites k s bytes a b r
     → Writes k s bytes (plain_meaning a.members a.sectors a.run) (plain_meaning b.members b.sectors b.run) r
@@ -18,7 +18,7 @@ plain_writes k s bytes a b r whole h = record {
       let fit : at * 512 + 512 ≤ length run = omega (arith, in_image) in
       subst (λ x. WriteIn k s bytes (plain_meaning m z run) (plain_meaning x.members x.sectors x.run) r) (sym f.0)
       (subst (WriteIn k s bytes (plain_meaning m z run) (plain_meaning m z (sector_put run at bytes))) (sym f.1) (record {
-        kept = plain_kept m z run (sector_put run at bytes) k;
+        others = plain_others m z run (sector_put run at bytes) k;
         persists = record { durable = λ j t. inr (inr refl) };
         elsewhere = λ j t apart. image_other m z run 0 at bytes j t (omega arith) fit q.long
             (λ a b same. apart (cell_one z j t k s b q.sector_below (sym (zero-add (j * z + t)) ∙ same)));

@@ -30,8 +30,8 @@ ranged_next a b k m s n l e f q = record {
   long = sym f ∙ q.long;
 }
 
-kept_twice : (m : ℕ) (a b c : Meaning) → OthersStay m a b → OthersStay m b c → OthersStay m a c
-kept_twice m a b c f g = record {
+others_twice : (m : ℕ) (a b c : Meaning) → OthersStay m a b → OthersStay m b c → OthersStay m a c
+others_twice m a b c f g = record {
   members = g.members ∙ f.members;
   sectors = g.sectors ∙ f.sectors;
   off_stays = λ e. g.off_stays (f.off_stays e);
@@ -55,9 +55,9 @@ read_twice : (m s : ℕ) (old mid other new : List ℕ) (a b c : Meaning) (r t :
     → Reads m s old mid a b r → Reads m s other new b c t → Reads m s other new a c t
 read_twice m s old mid other new a b c r t long f g = record {
   inside = λ q. (let first = f.inside (record { member_below = q.member_below; sector_below = q.sector_below; long = sym long ∙ q.long }) in
-      let second = g.inside (ranged_next a b m m s (length other) (length other) first.kept refl q) in
+      let second = g.inside (ranged_next a b m m s (length other) (length other) first.others refl q) in
       record {
-        kept = kept_twice m a b c first.kept second.kept;
+        others = others_twice m a b c first.others second.others;
         persists = persists_twice a b c (λ k i. inl (first.current k i)) first.persists second.persists;
         current = λ k i. second.current k i ∙ first.current k i;
         tells = second.tells;
@@ -86,10 +86,10 @@ write_twice : (m s : ℕ) (content : List ℕ) (a b c : Meaning) (r t : Answer) 
     → Writes m s content a b r → Writes m s content b c t → Writes m s content a c t
 write_twice m s content a b c r t ne f g = record {
   inside = λ q. (let first = f.inside q in
-      let second = g.inside (ranged_next a b m m s (length content) (length content) first.kept refl q) in
+      let second = g.inside (ranged_next a b m m s (length content) (length content) first.others refl q) in
       let way = sets_or r content (a.current m s) (b.current m s) first.sets in
       record {
-        kept = kept_twice m a b c first.kept second.kept;
+        others = others_twice m a b c first.others second.others;
         persists = persists_twice a b c (between first second) first.persists second.persists;
         elsewhere = λ k i apart. second.elsewhere k i apart ∙ first.elsewhere k i apart;
         tells = second.tells;
@@ -119,9 +119,9 @@ write_twice m s content a b c r t ne f g = record {
 flush_twice : (m : ℕ) (a b c : Meaning) (r t : Answer) → Flushed m a b r → Flushed m b c t → Flushed m a c t
 flush_twice m a b c r t f g = record {
   inside = λ q. (let first = f.inside q in
-      let second = g.inside (subst (λ x. m < x) (sym first.kept.members) q) in
+      let second = g.inside (subst (λ x. m < x) (sym first.others.members) q) in
       record {
-        kept = kept_twice m a b c first.kept second.kept;
+        others = others_twice m a b c first.others second.others;
         persists = persists_twice a b c (λ k i. inl (first.current k i)) first.persists second.persists;
         current = λ k i. second.current k i ∙ first.current k i;
         tells = second.tells;
@@ -193,8 +193,8 @@ lasts m s a b c r f g =
     ]
 
 -- from what happens to members and power
-stays_kept : (m : ℕ) (a b : Meaning) → OthersStay m a b → Stays a b
-stays_kept m a b f = record {
+stays_others : (m : ℕ) (a b : Meaning) → OthersStay m a b → Stays a b
+stays_others m a b f = record {
   off = f.off_stays;
   absent = λ k gone. elim (cases_eq k m) [
     | inr other ↦ f.others k other ∙ gone
@@ -211,14 +211,14 @@ keeps = record {
   read_again = λ m s old mid other new a b c f g. (read_in m s other new b c g).gives ∙ ((read_in m s old mid a b f).current m s ∙ sym (read_in m s old mid a b f).gives);
   flushed_lasts = lasts;
   written_lasts = λ m s content a b c d r f g h. (let both = lasts m s b c d r g h in let e = (write_in m s content a b f).sets in (both.0 ∙ e, both.1 ∙ e));
-  read_stays = λ m s old new a b r f. elim (ranged a m s (length old)) [ inl q ↦ stays_kept m a b (f.inside q).kept | inr out ↦ stays_same a b (f.outside out).1 ];
-  write_stays = λ m s content a b r f. elim (ranged a m s (length content)) [ inl q ↦ stays_kept m a b (f.inside q).kept | inr out ↦ stays_same a b (f.outside out).1 ];
-  flush_stays = λ m a b r f. elim (cases_lt m a.members) [ inl q ↦ stays_kept m a b (f.inside q).kept | inr out ↦ stays_same a b (f.outside (λ q. omega arith)).1 ];
+  read_stays = λ m s old new a b r f. elim (ranged a m s (length old)) [ inl q ↦ stays_others m a b (f.inside q).others | inr out ↦ stays_same a b (f.outside out).1 ];
+  write_stays = λ m s content a b r f. elim (ranged a m s (length content)) [ inl q ↦ stays_others m a b (f.inside q).others | inr out ↦ stays_same a b (f.outside out).1 ];
+  flush_stays = λ m a b r f. elim (cases_lt m a.members) [ inl q ↦ stays_others m a b (f.inside q).others | inr out ↦ stays_same a b (f.outside (λ q. omega arith)).1 ];
   restart_absent = λ a b r f k gone. f.present k ∙ gone;
 }
 
-kept_cut : (m : ℕ) (a : Meaning) → OthersStay m a (cut a)
-kept_cut m a = record { members = refl; sectors = refl; off_stays = λ e. refl; absent_stays = λ e. e; others = λ k ne. refl }
+others_cut : (m : ℕ) (a : Meaning) → OthersStay m a (cut a)
+others_cut m a = record { members = refl; sectors = refl; off_stays = λ e. refl; absent_stays = λ e. e; others = λ k ne. refl }
 
 persists_cut : (a : Meaning) → Persists a (cut a)
 persists_cut a = record { durable = λ k s. inl refl }
@@ -250,19 +250,19 @@ written_there m t content a k s apart = elim (cases_eq k m) [
 ]
 
 -- nothing happens to members and power
-kept_same : (m : ℕ) (a b : Meaning) → b.members ≡ a.members → b.sectors ≡ a.sectors → b.on ≡ a.on → b.present ≡ a.present → OthersStay m a b
-kept_same m a b e f g h = record { members = e; sectors = f; off_stays = λ off. g ∙ off; absent_stays = λ gone. ap (λ p. p m) h ∙ gone; others = λ k ne. ap (λ p. p k) h }
+others_same : (m : ℕ) (a b : Meaning) → b.members ≡ a.members → b.sectors ≡ a.sectors → b.on ≡ a.on → b.present ≡ a.present → OthersStay m a b
+others_same m a b e f g h = record { members = e; sectors = f; off_stays = λ off. g ∙ off; absent_stays = λ gone. ap (λ p. p m) h ∙ gone; others = λ k ne. ap (λ p. p k) h }
 
 -- or the power goes as well
-kept_off : (m : ℕ) (a b : Meaning) → OthersStay m a b → OthersStay m a (cut b)
-kept_off m a b f = record { members = f.members; sectors = f.sectors; off_stays = λ e. refl; absent_stays = f.absent_stays; others = f.others }
+others_off : (m : ℕ) (a b : Meaning) → OthersStay m a b → OthersStay m a (cut b)
+others_off m a b f = record { members = f.members; sectors = f.sectors; off_stays = λ e. refl; absent_stays = f.absent_stays; others = f.others }
 
 -- or a member is lost
 gone_here : (m : ℕ) (a : Meaning) → (without_member m a).present m ≡ false
 gone_here m a = cond-true (eqb m m) _ _ (eq-eqb m m refl)
 
-kept_lost : (m : ℕ) (a : Meaning) → OthersStay m a (without_member m a)
-kept_lost m a = record { members = refl; sectors = refl; off_stays = λ e. e; absent_stays = λ e. gone_here m a; others = λ k ne. cond-false (eqb k m) _ _ (ne_eqb k m ne) }
+others_lost : (m : ℕ) (a : Meaning) → OthersStay m a (without_member m a)
+others_lost m a = record { members = refl; sectors = refl; off_stays = λ e. e; absent_stays = λ e. gone_here m a; others = λ k ne. cond-false (eqb k m) _ _ (ne_eqb k m ne) }
 
 persists_lost : (m : ℕ) (a : Meaning) → Persists a (without_member m a)
 persists_lost m a = record { durable = λ k s. inl refl }
@@ -300,15 +300,15 @@ part_here some pick a k s there = elim (part_or some pick a k s) [
 pub allows : Allows
 allows = record {
   read = λ m s old a q. record {
-    inside = λ h. record { kept = kept_cut m a; persists = persists_cut a; current = λ k i. refl; tells = refl; gives = refl };
+    inside = λ h. record { others = others_cut m a; persists = persists_cut a; current = λ k i. refl; tells = refl; gives = refl };
     outside = λ no. absurd (no q);
   };
   write = λ m s content a q. record {
-    inside = λ h. record { kept = kept_cut m a; persists = persists_cut a; elsewhere = λ k i apart. refl; tells = refl; sets = inl refl };
+    inside = λ h. record { others = others_cut m a; persists = persists_cut a; elsewhere = λ k i apart. refl; tells = refl; sets = inl refl };
     outside = λ no. absurd (no q);
   };
   flush = λ m a q. record {
-    inside = λ h. record { kept = kept_cut m a; persists = persists_cut a; current = λ k i. refl; tells = refl; flushes = tt };
+    inside = λ h. record { others = others_cut m a; persists = persists_cut a; current = λ k i. refl; tells = refl; flushes = tt };
     outside = λ no. absurd (no q);
   };
   restart = λ a. record {
@@ -325,7 +325,7 @@ allows = record {
   flush_refused = λ m a no. record { inside = λ q. absurd (no q); outside = λ n. (refl, refl) };
   read_done = λ pick m s old a q on there. record {
     inside = λ h. record {
-      kept = kept_same m a (some_durable pick a) refl refl refl refl;
+      others = others_same m a (some_durable pick a) refl refl refl refl;
       persists = persists_amid pick (λ k i. false) a (some_durable pick a) (λ k i. refl);
       current = λ k i. refl;
       tells = (on, there);
@@ -335,7 +335,7 @@ allows = record {
   };
   write_done = λ before after m s content a q on there. record {
     inside = λ h. record {
-      kept = kept_same m a (with_current_amid before after m s content a) refl refl refl refl;
+      others = others_same m a (with_current_amid before after m s content a) refl refl refl refl;
       persists = persists_amid before after a (with_current_amid before after m s content a) (λ k i. refl);
       elsewhere = written_there m s content a;
       tells = (on, there);
@@ -345,7 +345,7 @@ allows = record {
   };
   read_cut = λ pick m s old a q. record {
     inside = λ h. record {
-      kept = kept_off m a (some_durable pick a) (kept_same m a (some_durable pick a) refl refl refl refl);
+      others = others_off m a (some_durable pick a) (others_same m a (some_durable pick a) refl refl refl refl);
       persists = persists_amid pick (λ k i. false) a (cut (some_durable pick a)) (λ k i. refl);
       current = λ k i. refl;
       tells = refl;
@@ -355,7 +355,7 @@ allows = record {
   };
   write_cut = λ before after m s content a q. record {
     inside = λ h. record {
-      kept = kept_off m a (with_current_amid before after m s content a) (kept_same m a (with_current_amid before after m s content a) refl refl refl refl);
+      others = others_off m a (with_current_amid before after m s content a) (others_same m a (with_current_amid before after m s content a) refl refl refl refl);
       persists = persists_amid before after a (cut (with_current_amid before after m s content a)) (λ k i. refl);
       elsewhere = written_there m s content a;
       tells = refl;
@@ -365,7 +365,7 @@ allows = record {
   };
   flush_done = λ pick m a q on there. record {
     inside = λ h. record {
-      kept = kept_same m a (member_durable m (some_durable pick a)) refl refl refl refl;
+      others = others_same m a (member_durable m (some_durable pick a)) refl refl refl refl;
       persists = persists_amid pick (λ k i. eqb k m) a (member_durable m (some_durable pick a)) (λ k i. refl);
       current = λ k i. refl;
       tells = (on, there);
@@ -375,7 +375,7 @@ allows = record {
   };
   flush_cut = λ pick m a q. record {
     inside = λ h. record {
-      kept = kept_off m a (some_durable pick a) (kept_same m a (some_durable pick a) refl refl refl refl);
+      others = others_off m a (some_durable pick a) (others_same m a (some_durable pick a) refl refl refl refl);
       persists = persists_amid pick (λ k i. false) a (cut (some_durable pick a)) (λ k i. refl);
       current = λ k i. refl;
       tells = refl;
@@ -384,15 +384,15 @@ allows = record {
     outside = λ no. absurd (no q);
   };
   read_absent = λ m s old a q on. record {
-    inside = λ h. record { kept = kept_lost m a; persists = persists_lost m a; current = λ k i. refl; tells = (on, gone_here m a); gives = refl };
+    inside = λ h. record { others = others_lost m a; persists = persists_lost m a; current = λ k i. refl; tells = (on, gone_here m a); gives = refl };
     outside = λ no. absurd (no q);
   };
   write_absent = λ m s content a q on. record {
-    inside = λ h. record { kept = kept_lost m a; persists = persists_lost m a; elsewhere = λ k i apart. refl; tells = (on, gone_here m a); sets = refl };
+    inside = λ h. record { others = others_lost m a; persists = persists_lost m a; elsewhere = λ k i apart. refl; tells = (on, gone_here m a); sets = refl };
     outside = λ no. absurd (no q);
   };
   flush_absent = λ m a q on. record {
-    inside = λ h. record { kept = kept_lost m a; persists = persists_lost m a; current = λ k i. refl; tells = (on, gone_here m a); flushes = tt };
+    inside = λ h. record { others = others_lost m a; persists = persists_lost m a; current = λ k i. refl; tells = (on, gone_here m a); flushes = tt };
     outside = λ no. absurd (no q);
   };
   restart_on = λ pick a. record {

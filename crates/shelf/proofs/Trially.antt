@@ -62,9 +62,9 @@ present_as : (m : ℕ) (c d : Controls) (j : ℕ) → get_or d.present j false �
     → cond (ltb j m) (get_or d.present j false) false ≡ cond (ltb j m) (get_or c.present j false) false
 present_as m c d j e = ap (λ b. cond (ltb j m) b false) e
 
-pub kept_after : (m z : ℕ) (run new : List ℕ) (c d : Controls) (k : ℕ) → k < m → d ≡ struck c k
+pub others_after : (m z : ℕ) (run new : List ℕ) (c d : Controls) (k : ℕ) → k < m → d ≡ struck c k
     → OthersStay k (trial_meaning m z run c) (trial_meaning m z new d)
-kept_after m z run new c d k lt e =
+others_after m z run new c d k lt e =
     let same : (j : ℕ) → get_or d.present j false ≡ get_or (struck c k).present j false = λ j. ap (λ (x : Controls). get_or x.present j false) e in
     record {
       members = refl;
@@ -83,7 +83,7 @@ reached m z run c k s bytes r whole range tell there =
     let in_image = cell_inside m z k s range.member_below range.sector_below in
     let fit : at * 512 + 512 ≤ length run = omega (arith, in_image) in
     record {
-      kept = kept_after m z run (sector_put run at bytes) c (struck c k) k range.member_below refl;
+      others = others_after m z run (sector_put run at bytes) c (struck c k) k range.member_below refl;
       persists = record {
         durable = λ j t. inl (image_other m z run 0 at bytes j t (omega arith) fit range.long
             (λ a b same. omega (arith, cell_inside m z j t a b, same)));
@@ -102,7 +102,7 @@ reached m z run c k s bytes r whole range tell there =
 missed : (m z : ℕ) (run : List ℕ) (c : Controls) (k s : ℕ) (bytes : List ℕ) (r : Answer) → k < m → r ≡ answer_after (struck c k) k
     → (c.on ≡ false) ⊎ (get_or (struck c k).present k false ≡ false) → WriteIn k s bytes (trial_meaning m z run c) (trial_meaning m z run (struck c k)) r
 missed m z run c k s bytes r lt tell way = record {
-  kept = kept_after m z run run c (struck c k) k lt refl;
+  others = others_after m z run run c (struck c k) k lt refl;
   persists = record { durable = λ j t. inl refl };
   elsewhere = λ j t apart. refl;
   tells = tells_after m z run (struck c k) k r lt tell;
@@ -156,14 +156,14 @@ trial_writes k s bytes a b r whole h = record {
     In : InRange a.members a.sectors k s (length bytes) → List ℕ → Type 0
     In q new = WriteIn k s bytes (means a) (trial_meaning a.members a.sectors new (struck a.controls k)) r
 
--- a flush that durable the member
+-- a flush that makes the member durable
 durable_member : (m z : ℕ) (run : List ℕ) (c d : Controls) (k : ℕ) (new : List ℕ) → k < m → d ≡ struck c k → done ≡ answer_after d k
     → Pulled (m * z) (k * z) (k * z + z) run new → FlushIn k (trial_meaning m z run c) (trial_meaning m z new d) done
 durable_member m z run c d k new lt e tell p =
     let current : (j t : ℕ) → image_of m z new (m * z) j t ≡ image_of m z run (m * z) j t = λ j t. image_same m z run new (m * z) j t (λ a b.
     ap (take 512) (p.rest ((m * z + (j * z + t)) * 512) (omega (arith, member_end z k m lt)))) in
     record {
-      kept = kept_after m z run new c d k lt e;
+      others = others_after m z run new c d k lt e;
       persists = record { durable = λ j t. durable_or m z run new k j t p };
       current = current;
       tells = tells_after m z new d k done lt tell;
@@ -200,7 +200,7 @@ durable_member m z run c d k new lt e tell p =
 undurable : (m z : ℕ) (run : List ℕ) (c : Controls) (k : ℕ) (r : Answer) → k < m → r ≡ answer_after (struck c k) k → (r ≡ done → ⊥)
     → FlushIn k (trial_meaning m z run c) (trial_meaning m z run (struck c k)) r
 undurable m z run c k r lt tell ne = record {
-  kept = kept_after m z run run c (struck c k) k lt refl;
+  others = others_after m z run run c (struck c k) k lt refl;
   persists = record { durable = λ j t. inl refl };
   current = λ j t. refl;
   tells = tells_after m z run (struck c k) k r lt tell;

@@ -62,21 +62,21 @@ Flushes (Ok x) m b = (s : ℕ) → b.durable m s ≡ b.current m s
 Flushes (Err e) m b = Unit {0}
 
 pub record ReadIn (m s : ℕ) (old new : List ℕ) (a b : Meaning) (r : Answer) : Type 0 where
-  pub kept : OthersStay m a b
+  pub others : OthersStay m a b
   pub persists : Persists a b
   pub current : SameCurrent a b
   pub tells : AnswerTells r m b
   pub gives : LeavesBuffer r (a.current m s) old new
 
 pub record WriteIn (m s : ℕ) (content : List ℕ) (a b : Meaning) (r : Answer) : Type 0 where
-  pub kept : OthersStay m a b
+  pub others : OthersStay m a b
   pub persists : Persists a b
   pub elsewhere : SameElsewhere m s a b
   pub tells : AnswerTells r m b
   pub sets : Sets r content (a.current m s) (b.current m s)
 
 pub record FlushIn (m : ℕ) (a b : Meaning) (r : Answer) : Type 0 where
-  pub kept : OthersStay m a b
+  pub others : OthersStay m a b
   pub persists : Persists a b
   pub current : SameCurrent a b
   pub tells : AnswerTells r m b

@@ -73,6 +73,6 @@ pub trait Shelf {
 // find its member gone, that any sectors may become durable meanwhile, and that a restart may bring out either content of each sector.
 pub fn relation_stands()
     ensures repeated { Repeats }
-    ensures kept { Remembers }
+    ensures remembered { Remembers }
     ensures allowed { Allows }
 {}

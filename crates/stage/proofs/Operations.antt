@@ -57,7 +57,7 @@ put_by (Err OutOfRange) m t c a b tells sets = absurd tells
 
 put_in : (m t : ℕ) (c : List ℕ) (a b : Meaning) (r : Answer) → WriteIn m t c a b r → PutAt m t c a b r
 put_in m t c a b r w = record {
-  may = may_by m a b w.kept w.persists (λ k s. elim (cases_eq k m) [
+  may = may_by m a b w.others w.persists (λ k s. elim (cases_eq k m) [
     | inr ne ↦ inl (w.elsewhere k s (λ e. ne e.0))
     | inl e ↦ elim (cases_eq s t) [
       | inr ne ↦ inl (w.elsewhere k s (λ f. ne f.1))
@@ -67,8 +67,8 @@ put_in m t c a b r w = record {
       ]
     ]
   ]);
-  others = w.kept.others;
-  left = left_by r m a b w.kept w.tells;
+  others = w.others.others;
+  left = left_by r m a b w.others w.tells;
   put = put_by r m t c a b w.tells w.sets;
 }
 

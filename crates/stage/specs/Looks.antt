@@ -15,7 +15,7 @@ use Rattle.model.specs.Contents.{at, home_in}
 use Rattle.model.specs.Crew.{Crew}
 use Rattle.model.specs.Reading.{content_at, parity_at}
 use Rattle.model.specs.Ends.{GoesOn, Stage}
-use Rattle.model.specs.Faults.{Either, OnSector}
+use Rattle.model.specs.Faults.{Either, NamesSector, OnSector}
 use Rattle.model.specs.May.{May, nothing}
 use Rattle.model.specs.Readable.{InUse, Room, some_copy}
 use Rattle.stage.specs.declared.array.Array.{Array}
@@ -25,6 +25,7 @@ pub record OnBody (op : Operation) (backup : ℕ) (a : Meaning) (f : Fault) : Ty
   pub operation : f.operation ≡ op
   pub there : a.present f.member ≡ true
   pub sector : 3 + backup ≤ f.sector
+  pub inside : NamesSector op f.sector a
   pub row : f.row ≡ None
 
 -- a member is there as long as members are enough

@@ -2,7 +2,7 @@
 ghost use Rattle.std.specs.Prelude.{◌+◌, ◌≤◌, replicate};
 ghost use Rattle.model.specs.May.{From, InSlots, May, OneFrom, nothing};
 ghost use Rattle.stage.specs.Arrays.{crew_of};
-ghost use Rattle.stage.specs.Endings.{StageEnds, HasVolume};
+ghost use Rattle.stage.specs.Endings.{HasVolume, StageEnds, only_writes, reads_and_writes};
 ghost use Rattle.stage.specs.Looks.{HomeHas, homes_of};
 
 use crate::array::Array;
@@ -17,7 +17,7 @@ impl<L: Layout> Array<L> {
     // Copies sectors below the size into their backup slots, and persists them.
     pub fn save<S: Shelf>(&self, shelf: &mut S, sectors: Range<u64>) -> Result<(), Refused>
         ensures may { May (InSlots self.now.head.backup) (S.meaning shelf.old) (S.meaning shelf.new) }
-        ensures ends { HasVolume L.geometry self.now (S.meaning shelf.old) → sectors.end ≤ self.now.head.size → StageEnds (crew_of L.geometry self.now) (InSlots self.now.head.backup) (S.meaning shelf.old) (S.meaning shelf.new) result }
+        ensures ends { HasVolume L.geometry self.now (S.meaning shelf.old) → sectors.end ≤ self.now.head.size → StageEnds (crew_of L.geometry self.now) reads_and_writes (InSlots self.now.head.backup) (S.meaning shelf.old) (S.meaning shelf.new) result }
     {
         for sector in sectors.start..sectors.end {
             self.save_sector(shelf, sector)?;
@@ -28,7 +28,7 @@ impl<L: Layout> Array<L> {
     // Copies a sector into its backup slot.
     fn save_sector<S: Shelf>(&self, shelf: &mut S, sector: u64) -> Result<(), Refused>
         ensures may { May (InSlots self.now.head.backup) (S.meaning shelf.old) (S.meaning shelf.new) }
-        ensures ends { HomeHas (homes_of L.geometry self.now sector) (crew_of L.geometry self.now) (L.geometry self.now.source) (L.geometry self.now.target) self.now.head.backup sector (S.meaning shelf.old) → StageEnds (crew_of L.geometry self.now) (InSlots self.now.head.backup) (S.meaning shelf.old) (S.meaning shelf.new) result }
+        ensures ends { HomeHas (homes_of L.geometry self.now sector) (crew_of L.geometry self.now) (L.geometry self.now.source) (L.geometry self.now.target) self.now.head.backup sector (S.meaning shelf.old) → StageEnds (crew_of L.geometry self.now) reads_and_writes (InSlots self.now.head.backup) (S.meaning shelf.old) (S.meaning shelf.new) result }
     {
         let content = self.show(shelf, sector)?;
         self.write_slot(shelf, sector, &content)
@@ -37,7 +37,7 @@ impl<L: Layout> Array<L> {
     // Writes all places of a target row as a fresh placement has them, and persists them.
     pub fn place_row<S: Shelf>(&self, shelf: &mut S, sectors: Range<u64>) -> Result<(), Refused>
         ensures may { May (From (3 + self.now.head.backup)) (S.meaning shelf.old) (S.meaning shelf.new) }
-        ensures ends { HasVolume L.geometry self.now (S.meaning shelf.old) → StageEnds (crew_of L.geometry self.now) (From (3 + self.now.head.backup)) (S.meaning shelf.old) (S.meaning shelf.new) result }
+        ensures ends { HasVolume L.geometry self.now (S.meaning shelf.old) → StageEnds (crew_of L.geometry self.now) reads_and_writes (From (3 + self.now.head.backup)) (S.meaning shelf.old) (S.meaning shelf.new) result }
     {
         for sector in sectors.start..sectors.end {
             self.place_led(shelf, sector)?;
@@ -48,7 +48,7 @@ impl<L: Layout> Array<L> {
     // Writes a sector to the target, with its group if it leads one.
     fn place_led<S: Shelf>(&self, shelf: &mut S, sector: u64) -> Result<(), Refused>
         ensures may { May (From (3 + self.now.head.backup)) (S.meaning shelf.old) (S.meaning shelf.new) }
-        ensures ends { HasVolume L.geometry self.now (S.meaning shelf.old) → StageEnds (crew_of L.geometry self.now) (From (3 + self.now.head.backup)) (S.meaning shelf.old) (S.meaning shelf.new) result }
+        ensures ends { HasVolume L.geometry self.now (S.meaning shelf.old) → StageEnds (crew_of L.geometry self.now) reads_and_writes (From (3 + self.now.head.backup)) (S.meaning shelf.old) (S.meaning shelf.new) result }
     {
         match self.target.group(sector) {
             None => self.place_sector(shelf, sector),
@@ -61,7 +61,7 @@ impl<L: Layout> Array<L> {
     // Writes a sector to its copies in the target.
     fn place_sector<S: Shelf>(&self, shelf: &mut S, sector: u64) -> Result<(), Refused>
         ensures may { May (From (3 + self.now.head.backup)) (S.meaning shelf.old) (S.meaning shelf.new) }
-        ensures ends { HasVolume L.geometry self.now (S.meaning shelf.old) → StageEnds (crew_of L.geometry self.now) (From (3 + self.now.head.backup)) (S.meaning shelf.old) (S.meaning shelf.new) result }
+        ensures ends { HasVolume L.geometry self.now (S.meaning shelf.old) → StageEnds (crew_of L.geometry self.now) reads_and_writes (From (3 + self.now.head.backup)) (S.meaning shelf.old) (S.meaning shelf.new) result }
     {
         let content = self.content_ahead(shelf, sector)?;
         self.write_copies(shelf, &self.target, sector, &content)
@@ -70,7 +70,7 @@ impl<L: Layout> Array<L> {
     // Writes the sectors of a group and their parity to the target.
     fn place_group<S: Shelf>(&self, shelf: &mut S, group: u64) -> Result<(), Refused>
         ensures may { May (From (3 + self.now.head.backup)) (S.meaning shelf.old) (S.meaning shelf.new) }
-        ensures ends { HasVolume L.geometry self.now (S.meaning shelf.old) → StageEnds (crew_of L.geometry self.now) (From (3 + self.now.head.backup)) (S.meaning shelf.old) (S.meaning shelf.new) result }
+        ensures ends { HasVolume L.geometry self.now (S.meaning shelf.old) → StageEnds (crew_of L.geometry self.now) reads_and_writes (From (3 + self.now.head.backup)) (S.meaning shelf.old) (S.meaning shelf.new) result }
     {
         let mut parity = zeros();
         for index in 0..self.target.peers(group) {
@@ -85,7 +85,7 @@ impl<L: Layout> Array<L> {
     // What a target row is to hold of a sector: its content, and zeros from the size on.
     fn content_ahead<S: Shelf>(&self, shelf: &mut S, sector: u64) -> Result<Sector, Refused>
         ensures may { May nothing (S.meaning shelf.old) (S.meaning shelf.new) }
-        ensures ends { HasVolume L.geometry self.now (S.meaning shelf.old) → StageEnds (crew_of L.geometry self.now) nothing (S.meaning shelf.old) (S.meaning shelf.new) result }
+        ensures ends { HasVolume L.geometry self.now (S.meaning shelf.old) → StageEnds (crew_of L.geometry self.now) reads_and_writes nothing (S.meaning shelf.old) (S.meaning shelf.new) result }
     {
         if sector < self.head.size {
             self.show(shelf, sector)
@@ -96,7 +96,7 @@ impl<L: Layout> Array<L> {
 
     // Zeroes every place of the source that has an owner, and persists it.
     pub fn clear<S: Shelf>(&self, shelf: &mut S) -> Result<(), Refused>
-        ensures { StageEnds (crew_of L.geometry self.now) (OneFrom (3 + self.now.head.backup) (replicate 512 0)) (S.meaning shelf.old) (S.meaning shelf.new) result }
+        ensures { StageEnds (crew_of L.geometry self.now) only_writes (OneFrom (3 + self.now.head.backup) (replicate 512 0)) (S.meaning shelf.old) (S.meaning shelf.new) result }
     {
         for member in 0..self.source.members() {
             self.clear_member(shelf, member)?;
@@ -105,7 +105,7 @@ impl<L: Layout> Array<L> {
     }
 
     fn clear_member<S: Shelf>(&self, shelf: &mut S, member: u64) -> Result<(), Refused>
-        ensures { StageEnds (crew_of L.geometry self.now) (OneFrom (3 + self.now.head.backup) (replicate 512 0)) (S.meaning shelf.old) (S.meaning shelf.new) result }
+        ensures { StageEnds (crew_of L.geometry self.now) only_writes (OneFrom (3 + self.now.head.backup) (replicate 512 0)) (S.meaning shelf.old) (S.meaning shelf.new) result }
     {
         for offset in 0..self.source.depth() {
             if self.source.owner((member, offset)) == Owner::Nobody {
@@ -117,7 +117,7 @@ impl<L: Layout> Array<L> {
     }
 
     fn clear_place<S: Shelf>(&self, shelf: &mut S, place: Place) -> Result<(), Refused>
-        ensures { StageEnds (crew_of L.geometry self.now) (OneFrom (3 + self.now.head.backup) (replicate 512 0)) (S.meaning shelf.old) (S.meaning shelf.new) result }
+        ensures { StageEnds (crew_of L.geometry self.now) only_writes (OneFrom (3 + self.now.head.backup) (replicate 512 0)) (S.meaning shelf.old) (S.meaning shelf.new) result }
     {
         self.write_place(shelf, place, &zeros())
     }

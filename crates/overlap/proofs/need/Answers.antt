@@ -1,6 +1,6 @@
 use Rattle.std.proofs.Common.{◌≡◌, ℕ, ◌+◌, ◌-◌, ◌*◌, ◌<◌, ltb, sym, ap, ◌∙◌, arith, rules}
 use Rattle.std.proofs.lemmas.Bool.{cond-true, lt-ltb}
-use Rattle.layout.specs.Geometry.{capacity as room}
+use Rattle.layout.specs.Geometry.{capacity}
 use Rattle.overlap.specs.Needs.{most, need_by_sector}
 use Rattle.overlap.proofs.Answering.{sector_below}
 use Rattle.overlap.proofs.Sharing.{highest_at, need_live}
@@ -19,7 +19,7 @@ returns-clause-value g c =
     let len = c.row_len-len.result in
     let width : c.args.row * len + len - c.args.row * len ≡ len = omega arith in
     let all : c.greatest.result ≡ most (row len) len =
-    c.greatest.ensures (row len) (λ i y lt called. let below : c.args.row * len + i < room t = omega (arith, sector_below t c.args.row i (omega arith) (omega (arith, lt)), ap (λ l. c.args.row * l) c.row_len-len.ensures) in search rules) ∙ ap (most (row len)) width in
+    c.greatest.ensures (row len) (λ i y lt called. let below : c.args.row * len + i < capacity t = omega (arith, sector_below t c.args.row i (omega arith) (omega (arith, lt)), ap (λ l. c.args.row * l) c.row_len-len.ensures) in search rules) ∙ ap (most (row len)) width in
     all ∙ (ap (λ l. most (row l) l) c.row_len-len.ensures ∙ sym (cond-true (ltb c.args.row t.rows) (most (row t.row_len) t.row_len) 0 (lt-ltb c.args.row t.rows (omega arith))))
 
 pub returns-clause-highest : goal.returns-clause-highest
