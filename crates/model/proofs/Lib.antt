@@ -3,4 +3,5 @@ pub mod Readable
 pub mod Runs
 pub mod WorkedAnswers
 pub mod WorkedCalls
+mod WorkedRuns
 pub mod Working
