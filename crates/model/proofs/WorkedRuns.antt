@@ -1,5 +1,5 @@
 -- Heads on the shelves of the worked runs.
-use Rattle.std.proofs.Common.{◌≡◌, ℕ, Bool, true, false, Some, None, Option, refl, ap, arith, slice_index_or}
+use Rattle.std.proofs.Common.{◌≡◌, ℕ, true, Some, None, refl, ap, arith, slice_index_or}
 use Rattle.std.proofs.lemmas.Bool.{both_ways}
 use Rattle.sector.specs.Bytes as bytes
 use Rattle.head.specs.declared.state.Head.{Head}

@@ -1,5 +1,5 @@
 -- Examples of every definition of this crate. Contents of one byte stand for sectors.
-use Rattle.std.specs.Prelude.{◌≡◌, ℕ, ◌≤◌, Bool, true, false, cond, List, [], ◌∷◌, replicate, Some, None, Option, ◌==◌, nat_eq}
+use Rattle.std.specs.Prelude.{◌≡◌, ℕ, ◌≤◌, Bool, true, false, cond, List, [], ◌∷◌, Some, None, Option, ◌==◌, nat_eq}
 use Rattle.std.proofs.Common.{arith}
 use Rattle.answer.specs.declared.Refusal.{Refusal}
 use Rattle.answer.specs.declared.Refusal.TheVariants.{BufferLength, PastEnd, WrongPhase, RowInHand, NeedNotKept, BackupFull, AllKept, RowsLeft, AllSettled, DistanceAboveBackup, OutOfLimits, NoHead, LabelsDiffer, HeadMisfit, MembersLost, PowerLost, NumbersSpent, WrongGrant}
@@ -14,7 +14,7 @@ use Rattle.shelf.specs.Meaning.{Meaning}
 use Rattle.model.specs.declared.phase.Phase.{Phase}
 use Rattle.model.specs.declared.phase.Phase.TheVariants.{Before, Moving, After, Shut}
 use Rattle.model.specs.declared.told.Told.{Told}
-use Rattle.model.specs.declared.request.Request.TheVariants.{Write, Begin, Keep, Copy, Settle, Finish, Open}
+use Rattle.model.specs.declared.request.Request.TheVariants.{Write, Begin, Copy, Settle, Finish, Open}
 use Rattle.model.specs.declared.request.Answered.TheVariants.{Met}
 use Rattle.model.specs.Contents.{home_in}
 use Rattle.model.specs.Disks.{Disk, after, disk_of, granted, refused}
