@@ -69,7 +69,7 @@ impl Candidates {
     }
 
     // The disk to go on from.
-    pub fn present(&self) -> &Disk
+    pub fn first(&self) -> &Disk
         ensures { shown result.now ≡ first_disk (candidates_of self.now) }
     {
         &self.first
