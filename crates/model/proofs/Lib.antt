@@ -1,3 +1,4 @@
+pub mod Carrying
 pub mod Mays
 pub mod Readable
 pub mod Runs

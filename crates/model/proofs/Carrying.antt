@@ -1,0 +1,97 @@
+-- Steps that are carried out, and what they make of sectors and of places.
+use Rattle.std.proofs.Common.{◌≡◌, ℕ, ◌+◌, ◌-◌, ◌<◌, ◌≤◌, Bool, true, false, cond, ◌&&◌, ◌⊎◌, ◌==◌, nat_le, nat_lt, List, refl, sym, ap, ◌∙◌, subst, inl, inr, arith}
+use Rattle.std.proofs.lemmas.Bool.{and_from, and_parts, cases_Bool, cases_eq, cond-false, cond-true, eq-eqb, le-leb, leb-true, lt-ltb, ltb-true, ne_eqb}
+use Rattle.head.specs.declared.TheConstants.{SLOTS_AT}
+use Rattle.layout.specs.Geometry.{Geometry, Is, place_of}
+use Rattle.layout.specs.Lawful.{Lawful, Owns}
+use Rattle.layout.specs.declared.place.Owner.{Owner}
+use Rattle.layout.specs.declared.place.Owner.TheVariants.{Datum, Nobody, Parity}
+use Rattle.shelf.specs.Meaning.{Meaning}
+use Rattle.model.specs.Crew.{Crew}
+use Rattle.model.specs.Ends.{GoesOn}
+use Rattle.model.specs.Images.{Image, with_places, with_sector}
+use Rattle.model.specs.May.{AtSector}
+use Rattle.model.specs.Steps.{Passed, Step, Torn}
+
+-- what is torn nowhere, and durable, was carried out
+pub carried : {w : Crew} (f : Step) {a b : Meaning} → Torn f a b → GoesOn w a b
+    → ((k s : ℕ) → b.present k ≡ true → s < b.sectors → b.current k s ≡ f a.current k s)
+    → ((k s : ℕ) → b.present k ≡ true → b.durable k s ≡ b.current k s) → Passed w f a b
+carried f torn goes current durable = record { may = torn; goes = goes; current = current; durable = durable }
+
+-- one content in the same sector of every member
+pub sector_set : (t : ℕ) (c : List ℕ) (f : Image) (k s : ℕ) → s ≡ t → with_sector t c f k s ≡ c
+sector_set t c f k s e = cond-true (s == t) c (f k s) (eq-eqb s t e)
+
+pub sector_left : (t : ℕ) (c : List ℕ) (f : Image) (k s : ℕ) → (s ≡ t → ⊥) → with_sector t c f k s ≡ f k s
+sector_left t c f k s ne = cond-false (s == t) c (f k s) (ne_eqb s t ne)
+
+-- what a plan for one sector makes of it
+pub sector_planned : (t : ℕ) (c : List ℕ) (f : Image) (k s : ℕ) (x : List ℕ) → AtSector t c k s x → x ≡ with_sector t c f k s
+sector_planned t c f k s x p = p.content ∙ sym (sector_set t c f k s p.sector)
+
+-- where the place of an owner lies on the shelf
+pub record CellOf (g : Geometry) (backup : ℕ) (o : Owner) (k s : ℕ) : Type 0 where
+  pub is : Is g o
+  pub member : k ≡ (place_of g o).0
+  pub sector : s ≡ SLOTS_AT + backup + (place_of g o).1
+
+abbrev pub in_body : Geometry → (backup k s : ℕ) → Bool
+in_body g backup k s = nat_lt k g.members && (nat_le (SLOTS_AT + backup) s && nat_lt s (SLOTS_AT + backup + g.depth))
+
+pub in_body_at : (g : Geometry) → Lawful g → (backup : ℕ) (o : Owner) (k s : ℕ) → CellOf g backup o k s → in_body g backup k s ≡ true
+in_body_at g law backup o k s c =
+    let inside = law.placing.inside o c.is in
+    let member = inside.member in
+    let offset = inside.offset in
+    let at = c.member in
+    let sector = c.sector in
+    and_from (nat_lt k g.members) _ (lt-ltb k g.members (omega (arith, member, at)))
+    (and_from (nat_le (SLOTS_AT + backup) s) _ (le-leb (SLOTS_AT + backup) s (omega (arith, sector))) (lt-ltb s (SLOTS_AT + backup + g.depth) (omega (arith, offset, sector))))
+
+-- at the place of an owner a step on places does what it does for that owner
+pub placed_at : (g : Geometry) → Lawful g → (backup : ℕ) (F : Owner → List ℕ → List ℕ) (f : Image) (o : Owner) (k s : ℕ) → CellOf g backup o k s
+    → with_places g backup F f k s ≡ F o (f k s)
+placed_at g law backup F f o k s c =
+    let sector = c.sector in
+    let offset : s - (SLOTS_AT + backup) ≡ (place_of g o).1 = omega (arith, sector) in
+    cond-true (in_body g backup k s) (F (g.owner (k, s - (SLOTS_AT + backup))) (f k s)) (f k s) (in_body_at g law backup o k s c)
+    ∙ ap (λ q. F q (f k s)) (ap (λ j. g.owner (j, s - (SLOTS_AT + backup))) c.member ∙ (ap (λ t. g.owner ((place_of g o).0, t)) offset ∙ law.placing.back o c.is))
+
+-- so each cell is that of an owner, or stays
+abbrev Placed : Geometry → ℕ → (Owner → List ℕ → List ℕ) → Image → ℕ → ℕ → Type 0
+Placed g backup F f k s = ((o : Owner) × CellOf g backup o k s) ⊎ (with_places g backup F f k s ≡ f k s)
+
+abbrev Owned : Geometry → ℕ → ℕ → ℕ → Type 0
+Owned g backup k s = (SLOTS_AT + backup ≤ s) × Owns g (k, s - (SLOTS_AT + backup)) (g.owner (k, s - (SLOTS_AT + backup)))
+
+owned_by : (g : Geometry) (backup k s : ℕ) (F : Owner → List ℕ → List ℕ) (f : Image) → ((x : List ℕ) → F Nobody x ≡ x) → (o : Owner) → SLOTS_AT + backup ≤ s
+    → Owns g (k, s - (SLOTS_AT + backup)) o → with_places g backup F f k s ≡ F o (f k s) → Placed g backup F f k s
+owned_by g backup k s F f idle (Datum i j) first owns e =
+    (let member : k ≡ (g.datum i j).0 = ap (λ (p : ℕ × ℕ). p.0) (sym owns.1) in
+    let offset : s - (SLOTS_AT + backup) ≡ (g.datum i j).1 = ap (λ (p : ℕ × ℕ). p.1) (sym owns.1) in
+    inl (Datum i j, record { is = owns.0; member = member; sector = omega (arith, first, offset) }))
+owned_by g backup k s F f idle (Parity x) first owns e =
+    (let member : k ≡ (g.parity x).0 = ap (λ (p : ℕ × ℕ). p.0) (sym owns.1) in
+    let offset : s - (SLOTS_AT + backup) ≡ (g.parity x).1 = ap (λ (p : ℕ × ℕ). p.1) (sym owns.1) in
+    inl (Parity x, record { is = owns.0; member = member; sector = omega (arith, first, offset) }))
+owned_by g backup k s F f idle Nobody first owns e = inr (e ∙ idle (f k s))
+
+pub placed_by : (g : Geometry) → Lawful g → (backup : ℕ) (F : Owner → List ℕ → List ℕ) (f : Image) → ((x : List ℕ) → F Nobody x ≡ x) → (k s : ℕ)
+    → ((o : Owner) × CellOf g backup o k s) ⊎ (with_places g backup F f k s ≡ f k s)
+placed_by g law backup F f idle k s = elim (cases_Bool (in_body g backup k s)) [
+  | inl inside ↦ (let parts = and_parts (nat_lt k g.members) _ inside in
+      let first = leb-true (SLOTS_AT + backup) s (and_parts (nat_le (SLOTS_AT + backup) s) _ parts.1).0 in
+      owned_by g backup k s F f idle (g.owner (k, s - (SLOTS_AT + backup))) first (law.placing.owned (k, s - (SLOTS_AT + backup)))
+      (cond-true (in_body g backup k s) (F (g.owner (k, s - (SLOTS_AT + backup))) (f k s)) (f k s) inside))
+  | inr outside ↦ inr (cond-false (in_body g backup k s) (F (g.owner (k, s - (SLOTS_AT + backup))) (f k s)) (f k s) outside)
+]
+
+-- no two owners have the same cell
+pub one_owner : (g : Geometry) → Lawful g → (backup : ℕ) (o q : Owner) (k s : ℕ) → CellOf g backup o k s → CellOf g backup q k s → o ≡ q
+one_owner g law backup o q k s c d =
+    let sector = c.sector in
+    let other = d.sector in
+    let offset : (place_of g o).1 ≡ (place_of g q).1 = omega (arith, sector, other) in
+    let member : (place_of g o).0 ≡ (place_of g q).0 = sym c.member ∙ d.member in
+    sym (law.placing.back o c.is) ∙ (ap (λ j. g.owner (j, (place_of g o).1)) member ∙ (ap (λ t. g.owner ((place_of g q).0, t)) offset ∙ law.placing.back q d.is))
