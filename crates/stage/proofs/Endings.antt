@@ -26,13 +26,15 @@ pub record Going (w : Crew) (P : ℕ → ℕ → List ℕ → Type 0) (a b : Mea
 
 -- whatever is done is done by the wider plan, and met by the wider names
 pub stage_ends : {A : Type 0} (w : Crew) (does : Operation → Bool) (P Q : ℕ → ℕ → List ℕ → Type 0) (F : Fault → Type 0) (a b : Meaning) (D : A → Type 0)
-    → ((k s : ℕ) (x : List ℕ) → Q k s x → P k s x) → ((f : Fault) → F f → OnMember does a f) → (r : Result A Refused) → Stage w Q F a b D r → StageEnds w does P a b r
+    → ((k s : ℕ) (x : List ℕ) → Q k s x → P k s x) → ((f : Fault) → F f → OnMember does a f) → (r : Result A Refused) → Stage w Q F a b D r
+    → StageEnds w does P a b r
 stage_ends w does P Q F a b D wider names (Ok x) s = (may_wider wider s.0, s.1, tt)
 stage_ends w does P Q F a b D wider names (Err e) s =
     (may_wider wider s.0, record { why = s.1.why; fault = names_as F (OnMember does a) names e.fault s.1.fault })
 
 -- who was there later was there before
-pub member_same : {does : Operation → Bool} {P : ℕ → ℕ → List ℕ → Type 0} {a b : Meaning} → May P a b → (f : Fault) → OnMember does b f → OnMember does a f
+pub member_same : {does : Operation → Bool} {P : ℕ → ℕ → List ℕ → Type 0} {a b : Meaning} → May P a b → (f : Fault) → OnMember does b f
+    → OnMember does a f
 member_same m f n = record {
   operation = n.operation;
   there = was_present m f.member n.there;
@@ -40,11 +42,12 @@ member_same m f n = record {
   row = n.row;
 }
 
--- an operation of fewer is one of more
-pub member_as : {does more : Operation → Bool} → ((o : Operation) → does o ≡ true → more o ≡ true) → (a : Meaning) (f : Fault) → OnMember does a f → OnMember more a f
+-- what a stage that does less may end at, one that does more may too
+pub member_as : {does more : Operation → Bool} → ((o : Operation) → does o ≡ true → more o ≡ true) → (a : Meaning) (f : Fault)
+    → OnMember does a f → OnMember more a f
 member_as wider a f n = record { operation = wider f.operation n.operation; there = n.there; sector = n.sector; row = n.row }
 
--- what only writes reads and writes
+-- a stage that reads and writes does all that one that only writes does
 pub writes_too : (o : Operation) → only_writes o ≡ true → reads_and_writes o ≡ true
 writes_too Restart w = w
 writes_too Read w = refl
@@ -73,8 +76,8 @@ pub going_then : {w : Crew} {P : ℕ → ℕ → List ℕ → Type 0} {a b c : M
 going_then g m go = record { may = may_then g.may m; goes = goes_then g.goes go }
 
 -- A fault of one operation on one sector of a member that was there, whatever else is known of it.
-one_of : {does : Operation → Bool} (op : Operation) → does op ≡ true → (a : Meaning) (t : ℕ) (f : Fault) → f.operation ≡ op → f.sector ≡ t → NamesSector op t a
-    → a.present f.member ≡ true → f.row ≡ None → OnMember does a f
+one_of : {does : Operation → Bool} (op : Operation) → does op ≡ true → (a : Meaning) (t : ℕ) (f : Fault) → f.operation ≡ op → f.sector ≡ t
+    → NamesSector op t a → a.present f.member ≡ true → f.row ≡ None → OnMember does a f
 one_of {does} op o a t f is at inside there row = record {
   operation = subst (λ p. does p ≡ true) (sym is) o;
   there = there;
@@ -88,10 +91,12 @@ on_cell op o a m t f n = one_of op o a t f n.operation n.sector n.inside n.there
 pub on_sector : {does : Operation → Bool} (op : Operation) → does op ≡ true → (a : Meaning) (t : ℕ) (f : Fault) → OnSector op a t f → OnMember does a f
 on_sector op o a t f n = one_of op o a t f n.operation n.sector n.inside n.there n.row
 
-pub on_body : {does : Operation → Bool} (op : Operation) → does op ≡ true → (backup : ℕ) (a : Meaning) (f : Fault) → OnBody op backup a f → OnMember does a f
+pub on_body : {does : Operation → Bool} (op : Operation) → does op ≡ true → (backup : ℕ) (a : Meaning) (f : Fault) → OnBody op backup a f
+    → OnMember does a f
 on_body op o backup a f n = one_of op o a f.sector f n.operation refl n.inside n.there n.row
 
-pub on_home : {does : Operation → Bool} (op : Operation) → does op ≡ true → (backup i : ℕ) (a : Meaning) (f : Fault) → OnHome op backup i a f → OnMember does a f
+pub on_home : {does : Operation → Bool} (op : Operation) → does op ≡ true → (backup i : ℕ) (a : Meaning) (f : Fault) → OnHome op backup i a f
+    → OnMember does a f
 on_home op o backup i a f n = elim n [ inl p ↦ on_body op o backup a f p | inr p ↦ on_sector op o a _ f p ]
 
 -- plans

@@ -48,4 +48,4 @@ returns-clause-ends g c = λ has.
     let b = g.S.Shelf.meaning c.loop-sector.shelf in
     let d = g.S.Shelf.meaning c.flush_all.new.shelf in
     let so : Going w P a b = record { may = c.loop-sector.invariant.0; goes = c.loop-sector.invariant.1 has } in
-    ends_after reads_and_writes d so c.flush_all.result (stage_ends w reads_and_writes P nothing _ b d _ (no_plan P) (on_sector Flush refl b 0) c.flush_all.result c.flush_all.ensures)
+    ends_after reads_and_writes d so c.flush_all.result (stage_ends w _ P nothing _ b d _ (no_plan P) (on_sector Flush refl b 0) c.flush_all.result c.flush_all.ensures)

@@ -18,7 +18,7 @@ returns-in_err-content-clause-ends g c = λ has.
     let P = From (3 + v.head.backup) in
     let d = g.S.Shelf.meaning c.content_ahead.new.shelf in
     handed_on (λ r. StageEnds w reads_and_writes P a d r) c.from_residual.result _ c.from_residual.ensures.1
-    (met_ends w reads_and_writes P nothing _ a d (no_plan P) (λ f n. n) _ (c.in_err-content.ensures.ends has))
+    (met_ends w _ P nothing _ a d (no_plan P) (λ f n. n) _ (c.in_err-content.ensures.ends has))
 
 pub returns-clause-may : goal.returns-clause-may
 returns-clause-may g c = may_then (quiet c.content_ahead.ensures.may) (from_one (stage_may _ _ _ c.write_copies.result c.write_copies.ensures))
@@ -33,4 +33,5 @@ returns-clause-ends g c = λ has.
     let d = g.S.Shelf.meaning c.write_copies.new.shelf in
     let s = c.in_ok-content.ensures.ends has in
     let so : Going w P a b = record { may = quiet s.0; goes = s.1 } in
-    ends_after reads_and_writes d so c.write_copies.result (stage_ends w reads_and_writes P _ _ b d _ (λ k n x p. record { sector = p.sector }) (member_as writes_too b) c.write_copies.result c.write_copies.ensures)
+    ends_after reads_and_writes d so c.write_copies.result
+    (stage_ends w _ P _ _ b d _ (λ k n x p. record { sector = p.sector }) (member_as writes_too b) c.write_copies.result c.write_copies.ensures)

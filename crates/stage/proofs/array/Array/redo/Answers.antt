@@ -17,7 +17,7 @@ returns-in_err-datum-clause-ends g c = λ u.
     let d = g.S.Shelf.meaning c.read_held.new.shelf in
     let one = one_sure (g.L.Layout.geometry c.args.self.now.source) (g.met.L.Layout.lawful c.args.self.now.source) c.args.self.now.head.backup 1 a u (omega arith) in
     handed_on (λ r. StageEnds w reads_and_writes (From 3) a d r) c.from_residual.result _ c.from_residual.ensures.1
-    (met_ends w reads_and_writes (From 3) nothing _ a d (no_plan (From 3)) (on_sector Read refl a 1) _ (c.in_err-datum.ensures.shows one))
+    (met_ends w _ (From 3) nothing _ a d (no_plan (From 3)) (on_sector Read refl a 1) _ (c.in_err-datum.ensures.shows one))
 
 pub returns-in_err-parity-clause-ends : goal.returns-in_err-parity-clause-ends
 returns-in_err-parity-clause-ends g c = λ u.
@@ -32,7 +32,7 @@ returns-in_err-parity-clause-ends g c = λ u.
     let l : Looking w a b = record { may = s.0; goes = s.1 } in
     let so : Going w (From 3) a b = record { may = quiet s.0; goes = s.1 } in
     handed_on (λ r. StageEnds w reads_and_writes (From 3) a d r) c.from_residual-in_err-parity.result _ c.from_residual-in_err-parity.ensures.1
-    (met_after d so _ (met_ends w reads_and_writes (From 3) nothing _ b d (no_plan (From 3)) (on_sector Read refl b 2) _
+    (met_after d so _ (met_ends w _ (From 3) nothing _ b d (no_plan (From 3)) (on_sector Read refl b 2) _
     (c.in_err-parity.ensures.shows (one_sure x law backup 2 b (use_stays l x backup u) (omega arith)))))
 
 pub returns-clause-may : goal.returns-clause-may
@@ -55,4 +55,4 @@ returns-clause-ends g c = λ u.
     let t = c.in_ok-parity.ensures.shows (one_sure x law backup 2 b (use_stays l x backup u) (omega arith)) in
     let so : Going w (From 3) a b = record { may = quiet s.0; goes = s.1 } in
     let both : Going w (From 3) a e = going_then so (quiet t.0) t.1 in
-    ends_after reads_and_writes d both c.apply.result (stage_ends w reads_and_writes (From 3) _ _ e d _ (λ k n y p. search rules) (member_as writes_too e) c.apply.result c.apply.ensures)
+    ends_after reads_and_writes d both c.apply.result (stage_ends w _ (From 3) _ _ e d _ (λ k n y p. search rules) (member_as writes_too e) c.apply.result c.apply.ensures)

@@ -16,7 +16,7 @@ returns-in_err-content-clause-ends g c = λ has.
     let P = InSlots v.head.backup in
     let d = g.S.Shelf.meaning c.show.new.shelf in
     handed_on (λ r. StageEnds w reads_and_writes P a d r) c.from_residual.result _ c.from_residual.ensures.1
-    (met_ends w reads_and_writes P nothing _ a d (no_plan P) (on_home Read refl v.head.backup c.args.sector a) _ (c.in_err-content.ensures.shows has))
+    (met_ends w _ P nothing _ a d (no_plan P) (on_home Read refl v.head.backup c.args.sector a) _ (c.in_err-content.ensures.shows has))
 
 pub returns-clause-may : goal.returns-clause-may
 returns-clause-may g c =
@@ -34,4 +34,6 @@ returns-clause-ends g c = λ has.
     let slot : c.args.sector % c.args.self.now.head.backup < c.args.self.now.head.backup = omega arith in
     let s = c.in_ok-content.ensures.shows has in
     let so : Going w P a b = record { may = quiet s.0; goes = s.1 } in
-    ends_after reads_and_writes d so c.write_slot.result (stage_ends w reads_and_writes P _ _ b d _ (λ k n x p. slots c.args.self.now.head.backup _ _ k n x slot p) (on_sector Write refl b (3 + c.args.sector % c.args.self.now.head.backup)) c.write_slot.result c.write_slot.ensures)
+    ends_after reads_and_writes d so c.write_slot.result
+    (stage_ends w _ P _ _ b d _ (λ k n x p. slots c.args.self.now.head.backup _ _ k n x slot p)
+    (on_sector Write refl b (3 + c.args.sector % c.args.self.now.head.backup)) c.write_slot.result c.write_slot.ensures)
