@@ -1,5 +1,6 @@
 -- The trial shelf, by its controls and its two images.
 use Rattle.std.specs.Prelude.{◌≡◌, ℕ, ◌+◌, ◌-◌, ◌*◌, ◌<◌, ◌≤◌, Bool, true, false, cond, ◌⊎◌, List, length, get_or, drop, replicate, Ok, Err, Result, ◌==◌, nat_lt, slice_index_or, slice_set}
+use Rattle.sector.specs.declared.TheConstants.{SECTOR}
 use Rattle.shelf.specs.Meaning.{Meaning}
 use Rattle.shelf.specs.Runs.{Chosen, InRange, Pulled, RunOf, chosen_of, image_of, sector_at, sector_put}
 use Rattle.shelf.specs.Answers.{Answer, done}
@@ -45,7 +46,7 @@ pub record Brought (m z : ℕ) (c : Controls) (upto : ℕ) (old new : List ℕ) 
   pub current : (k s : ℕ) → k < upto → s < z → slice_index_or c.present k false ≡ true → sector_at new (m * z + (k * z + s)) ≡ chosen_of c.choice (m * z) old (k * z + s)
   pub rest_durable : (k s : ℕ) → k < m → s < z → (upto ≤ k) ⊎ (slice_index_or c.present k false ≡ false) → sector_at new (k * z + s) ≡ sector_at old (k * z + s)
   pub rest_current : (k s : ℕ) → k < m → s < z → (upto ≤ k) ⊎ (slice_index_or c.present k false ≡ false) → sector_at new (m * z + (k * z + s)) ≡ sector_at old (m * z + (k * z + s))
-  pub rest : (i : ℕ) → m * z * 2 * 512 ≤ i → drop i new ≡ drop i old
+  pub rest : (i : ℕ) → m * z * 2 * SECTOR ≤ i → drop i new ≡ drop i old
 
 -- what it makes of one member
 pub record BroughtOne (m z : ℕ) (c : Controls) (k : ℕ) (old new : List ℕ) : Type 0 where

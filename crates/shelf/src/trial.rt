@@ -5,6 +5,7 @@ ghost use Rattle.shelf.specs.Meaning.{Flushed, Reads, Restarts, Writes};
 ghost use Rattle.shelf.specs.Runs.{BlankOf, FitsRun};
 ghost use Rattle.shelf.specs.Trials.{Loses, ControlSet, TrialFlushes, TrialMade, TrialReads, TrialRestarts, TrialWrites, controlled, new_controls, means, with_choice, with_fuse};
 ghost use Rattle.std.proofs.Common.{rules, arith};
+ghost use Rattle.sector.specs.declared.TheConstants.{SECTOR};
 
 use crate::controlled::Controlled;
 use crate::controls::Controls;
@@ -85,7 +86,7 @@ impl TrialShelf {
     // The run of bytes, both images, as the shelf left it.
     pub fn into_bytes(self) -> Vec<u8>
         ensures bytes { result.items ≡ self.run }
-        ensures held { self.members * self.sectors * 2 * 512 ≤ length result.items }
+        ensures held { self.members * self.sectors * 2 * SECTOR ≤ length result.items }
     {
         let TrialShelf {
             images,
