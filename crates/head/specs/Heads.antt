@@ -1,14 +1,15 @@
 -- The bytes of a head, and which bytes are a head.
-use Rattle.std.specs.Prelude.{◌≡◌, ℕ, ◌≤◌, List, [], ◌∷◌, ◌++◌, length, Some, None, Option, slice_index_or}
+use Rattle.std.specs.Prelude.{◌≡◌, ℕ, ◌-◌, ◌≤◌, List, [], ◌∷◌, ◌++◌, length, Some, None, Option, slice_index_or}
 use Rattle.std.specs.List.{between}
 use Rattle.sector.specs.Bytes.{le, from_le}
+use Rattle.sector.specs.declared.TheConstants.{SECTOR}
 use Rattle.layout.specs.Bytes.{label_bytes, label_from}
 use Rattle.layout.specs.declared.label.Label.{Label}
 use Rattle.head.specs.Fields.{clear}
 use Rattle.head.specs.declared.state.Head.{Head}
 use Rattle.head.specs.declared.state.Progress.{Progress}
 use Rattle.head.specs.declared.state.Progress.TheVariants.{Idle, Moving}
-use Rattle.head.specs.declared.TheConstants.{MOST_BACKUP, MOST_NUMBER}
+use Rattle.head.specs.declared.TheConstants.{LOGGED_AT, MOST_BACKUP, MOST_NUMBER, TAIL_AT}
 
 -- the label of no layout: all its bytes are zero
 abbrev pub no_label : Label
@@ -51,7 +52,7 @@ head_bytes h =
     ++ le 4 h.backup
     ++ clear 4
     ++ le 8 (logged_number h.armed)
-    ++ clear 424
+    ++ clear (SECTOR - TAIL_AT)
 
 pub record Marked (bs : List ℕ) : Type 0 where
   pub first : slice_index_or bs 0 0 ≡ 0x52
@@ -66,7 +67,7 @@ pub record Flagged (bs : List ℕ) : Type 0 where
 pub record Gapped (bs : List ℕ) : Type 0 where
   pub start : between 5 8 bs ≡ clear 3
   pub slots : between 76 80 bs ≡ clear 4
-  pub tail : between 88 512 bs ≡ clear 424
+  pub tail : between TAIL_AT SECTOR bs ≡ clear (SECTOR - TAIL_AT)
 
 pub record NumbersInLimits (bs : List ℕ) : Type 0 where
   pub number_least : 1 ≤ from_le (between 8 16 bs)
@@ -81,11 +82,11 @@ pub record IdleBare (bs : List ℕ) : Type 0 where
 
 -- an unarmed head has no logged sector
 pub record UnarmedBare (bs : List ℕ) : Type 0 where
-  pub logged : slice_index_or bs 4 0 ≡ 0 → between 80 88 bs ≡ clear 8
+  pub logged : slice_index_or bs 4 0 ≡ 0 → between LOGGED_AT TAIL_AT bs ≡ clear 8
 
 -- which bytes are a head
 pub record Accepted (bs : List ℕ) : Type 0 where
-  pub long : length bs ≡ 512
+  pub long : length bs ≡ SECTOR
   pub marked : Marked bs
   pub flags : Flagged bs
   pub gaps : Gapped bs
