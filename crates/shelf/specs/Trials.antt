@@ -1,6 +1,7 @@
 -- The trial shelf, by its controls and its two images.
 use Rattle.std.specs.Prelude.{◌≡◌, ℕ, ◌+◌, ◌-◌, ◌*◌, ◌<◌, ◌≤◌, Bool, true, false, cond, ◌⊎◌, List, length, get_or, drop, replicate, Ok, Err, Result, ◌==◌, nat_lt, slice_index_or, slice_set}
 use Rattle.sector.specs.declared.TheConstants.{SECTOR}
+use Rattle.sector.specs.declared.limits.TheConstants.{MOST_MEMBERS}
 use Rattle.shelf.specs.Meaning.{Meaning}
 use Rattle.shelf.specs.Runs.{Chosen, InRange, Pulled, RunOf, chosen_of, image_of, sector_at, sector_put}
 use Rattle.shelf.specs.Answers.{Answer, done}
@@ -117,7 +118,7 @@ pub record TrialRestarts (a b : Trial) (r : Bool) : Type 0 where
 
 -- the controls of a new shelf
 abbrev pub new_controls : Controls
-new_controls = record { on = true; fuse = NEVER; choice = 0; present = replicate 16 true; losing = replicate 16 false }
+new_controls = record { on = true; fuse = NEVER; choice = 0; present = replicate MOST_MEMBERS true; losing = replicate MOST_MEMBERS false }
 
 -- a new shelf: as asked for where the run fits, else 2 members without sectors
 pub record TrialMade (m z : ℕ) (run : List ℕ) (b : Trial) : Type 0 where

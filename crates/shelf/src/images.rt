@@ -3,6 +3,7 @@ ghost use Rattle.std.specs.Prelude.{◌≡◌, ◌+◌, ◌*◌, ◌<◌, ◌≤
 ghost use Rattle.shelf.specs.Runs.{BlankOf, Cell, FitsRun, InLastImage, MadeOf, Pulled, sector_at, sector_put};
 ghost use Rattle.shelf.specs.Trials.{Brought, BroughtOne};
 ghost use Rattle.sector.specs.declared.TheConstants.{SECTOR};
+ghost use Rattle.sector.specs.declared.limits.TheConstants.{MOST_MEMBERS};
 
 use crate::controls::Controls;
 use crate::extent::Extent;
@@ -71,7 +72,7 @@ impl<const COUNT: u64> Images<COUNT> {
     // Where a sector lies in the first image, if it and a buffer of this length are in range.
     pub(crate) fn cell(&self, member: u64, sector: u64, length: usize) -> Result<usize, Failure>
         ensures cell { Cell self.now.extent.members self.now.extent.sectors member sector length result }
-        ensures few { self.now.extent.members ≤ 16 }
+        ensures few { self.now.extent.members ≤ MOST_MEMBERS }
     {
         self.extent.cell(member, sector, length)
     }

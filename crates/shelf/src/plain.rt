@@ -5,6 +5,7 @@ ghost use Rattle.shelf.specs.Plains.{PlainFlushes, PlainMade, PlainReads, PlainR
 ghost use Rattle.shelf.specs.Runs.{BlankOf, FitsRun};
 ghost use Rattle.std.proofs.Common.{rules, arith};
 ghost use Rattle.sector.specs.declared.TheConstants.{SECTOR};
+ghost use Rattle.sector.specs.declared.limits.TheConstants.{MOST_MEMBERS};
 
 use crate::image::Image;
 use crate::images::Images;
@@ -72,7 +73,7 @@ impl Shelf for PlainShelf {
 
     fn members(&self) -> u64
         ensures members { result ≡ self.now.members }
-        ensures few { result ≤ 16 }
+        ensures few { result ≤ MOST_MEMBERS }
     {
         self.images.extent.members
     }
