@@ -5,6 +5,7 @@ use Rattle.sector.specs.Bytes.{le, from_le}
 use Rattle.sector.specs.declared.TheConstants.{SECTOR}
 use Rattle.layout.specs.Bytes.{label_bytes, label_from}
 use Rattle.layout.specs.declared.label.Label.{Label}
+use Rattle.layout.specs.declared.label.TheConstants.{LABEL}
 use Rattle.head.specs.Fields.{clear}
 use Rattle.head.specs.declared.state.Head.{Head}
 use Rattle.head.specs.declared.state.Progress.{Progress}
@@ -77,7 +78,7 @@ pub record NumbersInLimits (bs : List ℕ) : Type 0 where
 
 -- an idle head has no target and no rows
 pub record IdleBare (bs : List ℕ) : Type 0 where
-  pub target : slice_index_or bs PHASE_AT 0 ≡ 0 → between TARGET_AT SIZE_AT bs ≡ clear 16
+  pub target : slice_index_or bs PHASE_AT 0 ≡ 0 → between TARGET_AT SIZE_AT bs ≡ clear LABEL
   pub rows : slice_index_or bs PHASE_AT 0 ≡ 0 → between SETTLED_AT BACKUP_AT bs ≡ clear 16
 
 -- an unarmed head has no logged sector
