@@ -1,14 +1,16 @@
 -- The bytes of a head, and which bytes are a head.
-use Rattle.std.specs.Prelude.{◌≡◌, ℕ, ◌≤◌, List, [], ◌∷◌, ◌++◌, length, Some, None, Option, slice_index_or}
+use Rattle.std.specs.Prelude.{◌≡◌, ℕ, ◌+◌, ◌-◌, ◌≤◌, List, [], ◌∷◌, ◌++◌, length, Some, None, Option, slice_index_or}
 use Rattle.std.specs.List.{between}
 use Rattle.sector.specs.Bytes.{le, from_le}
+use Rattle.sector.specs.declared.TheConstants.{SECTOR}
 use Rattle.layout.specs.Bytes.{label_bytes, label_from}
 use Rattle.layout.specs.declared.label.Label.{Label}
+use Rattle.layout.specs.declared.label.TheConstants.{LABEL}
 use Rattle.head.specs.Fields.{clear}
 use Rattle.head.specs.declared.state.Head.{Head}
 use Rattle.head.specs.declared.state.Progress.{Progress}
 use Rattle.head.specs.declared.state.Progress.TheVariants.{Idle, Moving}
-use Rattle.head.specs.declared.TheConstants.{MOST_BACKUP, MOST_NUMBER}
+use Rattle.head.specs.declared.TheConstants.{ARMED_AT, BACKUP_AT, EDITION, EDITION_AT, LOGGED_AT, MOST_BACKUP, MOST_NUMBER, NUMBER_AT, PHASE_AT, SETTLED_AT, SIZE_AT, SOURCE_AT, TAIL_AT, TARGET_AT}
 
 -- the label of no layout: all its bytes are zero
 abbrev pub no_label : Label
@@ -51,41 +53,41 @@ head_bytes h =
     ++ le 4 h.backup
     ++ clear 4
     ++ le 8 (logged_number h.armed)
-    ++ clear 424
+    ++ clear (SECTOR - TAIL_AT)
 
 pub record Marked (bs : List ℕ) : Type 0 where
   pub first : slice_index_or bs 0 0 ≡ 0x52
   pub second : slice_index_or bs 1 0 ≡ 0x48
-  pub edition : slice_index_or bs 2 0 ≡ 1
+  pub edition : slice_index_or bs EDITION_AT 0 ≡ EDITION
 
 pub record Flagged (bs : List ℕ) : Type 0 where
-  pub phase : slice_index_or bs 3 0 ≤ 1
-  pub armed : slice_index_or bs 4 0 ≤ 1
+  pub phase : slice_index_or bs PHASE_AT 0 ≤ 1
+  pub armed : slice_index_or bs ARMED_AT 0 ≤ 1
 
 -- zeros where nothing is said
 pub record Gapped (bs : List ℕ) : Type 0 where
-  pub start : between 5 8 bs ≡ clear 3
-  pub slots : between 76 80 bs ≡ clear 4
-  pub tail : between 88 512 bs ≡ clear 424
+  pub start : between (ARMED_AT + 1) NUMBER_AT bs ≡ clear 3
+  pub slots : between (BACKUP_AT + 4) LOGGED_AT bs ≡ clear 4
+  pub tail : between TAIL_AT SECTOR bs ≡ clear (SECTOR - TAIL_AT)
 
 pub record NumbersInLimits (bs : List ℕ) : Type 0 where
-  pub number_least : 1 ≤ from_le (between 8 16 bs)
-  pub number_most : from_le (between 8 16 bs) ≤ MOST_NUMBER
-  pub backup_least : 1 ≤ from_le (between 72 76 bs)
-  pub backup_most : from_le (between 72 76 bs) ≤ MOST_BACKUP
+  pub number_least : 1 ≤ from_le (between NUMBER_AT SOURCE_AT bs)
+  pub number_most : from_le (between NUMBER_AT SOURCE_AT bs) ≤ MOST_NUMBER
+  pub backup_least : 1 ≤ from_le (between BACKUP_AT (BACKUP_AT + 4) bs)
+  pub backup_most : from_le (between BACKUP_AT (BACKUP_AT + 4) bs) ≤ MOST_BACKUP
 
 -- an idle head has no target and no rows
 pub record IdleBare (bs : List ℕ) : Type 0 where
-  pub target : slice_index_or bs 3 0 ≡ 0 → between 32 48 bs ≡ clear 16
-  pub rows : slice_index_or bs 3 0 ≡ 0 → between 56 72 bs ≡ clear 16
+  pub target : slice_index_or bs PHASE_AT 0 ≡ 0 → between TARGET_AT SIZE_AT bs ≡ clear LABEL
+  pub rows : slice_index_or bs PHASE_AT 0 ≡ 0 → between SETTLED_AT BACKUP_AT bs ≡ clear 16
 
 -- an unarmed head has no logged sector
 pub record UnarmedBare (bs : List ℕ) : Type 0 where
-  pub logged : slice_index_or bs 4 0 ≡ 0 → between 80 88 bs ≡ clear 8
+  pub logged : slice_index_or bs ARMED_AT 0 ≡ 0 → between LOGGED_AT TAIL_AT bs ≡ clear 8
 
 -- which bytes are a head
 pub record Accepted (bs : List ℕ) : Type 0 where
-  pub long : length bs ≡ 512
+  pub long : length bs ≡ SECTOR
   pub marked : Marked bs
   pub flags : Flagged bs
   pub gaps : Gapped bs

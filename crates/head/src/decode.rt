@@ -2,6 +2,7 @@
 ghost use Rattle.std.specs.Prelude.{◌≡◌, Some, slice_index, MatchOption};
 ghost use Rattle.head.specs.Fields.{NumberAt, LabelAt};
 ghost use Rattle.head.specs.Heads.{Accepted, Fits, head_bytes, phase_byte, target_label, settled_rows, kept_rows, armed_byte, logged_number};
+ghost use Rattle.head.specs.declared.TheConstants.{ARMED_AT, KEPT_AT, LOGGED_AT, PHASE_AT, SETTLED_AT, TARGET_AT};
 
 use crate::accept::HeadSector;
 use crate::part::field_at;
@@ -45,10 +46,10 @@ impl HeadSector<'_> {
     }
 
     fn progress(&self) -> Progress
-        ensures phase { phase_byte result ≡ slice_index self.now.bytes.now 3 }
-        ensures target { LabelAt 32 (target_label result) self.now.bytes.now }
-        ensures settled { NumberAt 56 (settled_rows result) self.now.bytes.now }
-        ensures kept { NumberAt 64 (kept_rows result) self.now.bytes.now }
+        ensures phase { phase_byte result ≡ slice_index self.now.bytes.now PHASE_AT }
+        ensures target { LabelAt TARGET_AT (target_label result) self.now.bytes.now }
+        ensures settled { NumberAt SETTLED_AT (settled_rows result) self.now.bytes.now }
+        ensures kept { NumberAt KEPT_AT (kept_rows result) self.now.bytes.now }
     {
         if self.bytes[PHASE_AT] == 0 {
             return Progress::Idle;
@@ -61,8 +62,8 @@ impl HeadSector<'_> {
     }
 
     fn armed(&self) -> Option<u64>
-        ensures armed { armed_byte result ≡ slice_index self.now.bytes.now 4 }
-        ensures logged { NumberAt 80 (logged_number result) self.now.bytes.now }
+        ensures armed { armed_byte result ≡ slice_index self.now.bytes.now ARMED_AT }
+        ensures logged { NumberAt LOGGED_AT (logged_number result) self.now.bytes.now }
     {
         (self.bytes[ARMED_AT] != 0).then(|| field_at(self.bytes, LOGGED_AT))
     }

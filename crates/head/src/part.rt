@@ -2,13 +2,14 @@
 ghost use Rattle.std.specs.Prelude.{◌≡◌, ◌+◌, ◌≤◌, length};
 ghost use Rattle.std.specs.List.{between, splice};
 ghost use Rattle.head.specs.Fields.{Decided, clear};
+ghost use Rattle.sector.specs.declared.TheConstants.{SECTOR};
 
 use sector::Sector;
 use sector::field::Field;
 
 // Reads the field at a place.
 pub(crate) fn field_at<const WIDTH: usize, F: Field<WIDTH>>(bytes: &Sector, at: usize) -> F
-    requires { at + WIDTH ≤ 512 }
+    requires { at + WIDTH ≤ SECTOR }
     ensures value { result ≡ F.of_bytes (between at (at + WIDTH) bytes.now) }
     ensures back { F.bytes_of result ≡ between at (at + WIDTH) bytes.now }
     ensures fits { F.of_bytes (F.bytes_of result) ≡ result }
@@ -22,7 +23,7 @@ pub(crate) fn put_field<const WIDTH: usize, F: Field<WIDTH>>(
     at: usize,
     value: F,
 )
-    requires { at + WIDTH ≤ 512 }
+    requires { at + WIDTH ≤ SECTOR }
     ensures bytes { bytes.new ≡ splice bytes.old at (at + WIDTH) (F.bytes_of value) }
     ensures fits { F.of_bytes (F.bytes_of value) ≡ value }
 {

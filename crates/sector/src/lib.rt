@@ -3,6 +3,7 @@
 
 ghost use Rattle.std.specs.Prelude.{◌≡◌, replicate, bit_xor};
 ghost use Rattle.sector.specs.Folds.{folded};
+ghost use Rattle.sector.specs.declared.TheConstants.{SECTOR};
 
 pub mod field;
 pub mod limits;
@@ -15,7 +16,7 @@ pub type Sector = [u8; SECTOR];
 
 // A sector of zeros.
 pub fn zeros() -> Sector
-    ensures { result ≡ replicate 512 0 }
+    ensures { result ≡ replicate SECTOR 0 }
 {
     [0; SECTOR]
 }

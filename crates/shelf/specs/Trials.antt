@@ -1,5 +1,7 @@
 -- The trial shelf, by its controls and its two images.
 use Rattle.std.specs.Prelude.{◌≡◌, ℕ, ◌+◌, ◌-◌, ◌*◌, ◌<◌, ◌≤◌, Bool, true, false, cond, ◌⊎◌, List, length, get_or, drop, replicate, Ok, Err, Result, ◌==◌, nat_lt, slice_index_or, slice_set}
+use Rattle.sector.specs.declared.TheConstants.{SECTOR}
+use Rattle.sector.specs.declared.limits.TheConstants.{MOST_MEMBERS}
 use Rattle.shelf.specs.Meaning.{Meaning}
 use Rattle.shelf.specs.Runs.{Chosen, InRange, Pulled, RunOf, chosen_of, image_of, sector_at, sector_put}
 use Rattle.shelf.specs.Answers.{Answer, done}
@@ -45,7 +47,7 @@ pub record Brought (m z : ℕ) (c : Controls) (upto : ℕ) (old new : List ℕ) 
   pub current : (k s : ℕ) → k < upto → s < z → slice_index_or c.present k false ≡ true → sector_at new (m * z + (k * z + s)) ≡ chosen_of c.choice (m * z) old (k * z + s)
   pub rest_durable : (k s : ℕ) → k < m → s < z → (upto ≤ k) ⊎ (slice_index_or c.present k false ≡ false) → sector_at new (k * z + s) ≡ sector_at old (k * z + s)
   pub rest_current : (k s : ℕ) → k < m → s < z → (upto ≤ k) ⊎ (slice_index_or c.present k false ≡ false) → sector_at new (m * z + (k * z + s)) ≡ sector_at old (m * z + (k * z + s))
-  pub rest : (i : ℕ) → m * z * 2 * 512 ≤ i → drop i new ≡ drop i old
+  pub rest : (i : ℕ) → m * z * 2 * SECTOR ≤ i → drop i new ≡ drop i old
 
 -- what it makes of one member
 pub record BroughtOne (m z : ℕ) (c : Controls) (k : ℕ) (old new : List ℕ) : Type 0 where
@@ -116,7 +118,7 @@ pub record TrialRestarts (a b : Trial) (r : Bool) : Type 0 where
 
 -- the controls of a new shelf
 abbrev pub new_controls : Controls
-new_controls = record { on = true; fuse = NEVER; choice = 0; present = replicate 16 true; losing = replicate 16 false }
+new_controls = record { on = true; fuse = NEVER; choice = 0; present = replicate MOST_MEMBERS true; losing = replicate MOST_MEMBERS false }
 
 -- a new shelf: as asked for where the run fits, else 2 members without sectors
 pub record TrialMade (m z : ℕ) (run : List ℕ) (b : Trial) : Type 0 where

@@ -1,6 +1,7 @@
 // The controls of a trial shelf: when the power goes, which members are lost, and what a restart brings out.
 ghost use Rattle.std.specs.Prelude.{◌≡◌, ◌<◌, false};
 ghost use Rattle.shelf.specs.Trials.{answer_after, struck};
+ghost use Rattle.sector.specs.declared.limits.TheConstants.{MOST_MEMBERS};
 
 use crate::{Answer, Failure};
 
@@ -32,7 +33,7 @@ impl Controls {
 
     // One operation on a member: while the shelf is on, a loss shows and the fuse burns. Answers how the shelf is afterwards.
     pub(crate) fn strike(&mut self, member: u64) -> Answer
-        requires { member < 16 }
+        requires { member < MOST_MEMBERS }
         ensures after { self.new ≡ struck self.old member }
         ensures answer { result ≡ answer_after self.new member }
     {

@@ -4,6 +4,7 @@ ghost use Rattle.answer.specs.declared.Refusal.TheVariants.{OutOfLimits};
 ghost use Rattle.shelf.specs.Runs.{Cell, RunOf, Within};
 ghost use Rattle.sector.specs.declared.limits.TheConstants.{MOST_MEMBERS};
 ghost use Rattle.shelf.specs.declared.TheConstants.{MOST_SECTORS};
+ghost use Rattle.sector.specs.declared.TheConstants.{SECTOR};
 
 use crate::{Failure, MOST_SECTORS};
 use answer::Refusal;
@@ -53,7 +54,7 @@ impl Extent {
     // The bytes of so many images.
     pub(crate) fn bytes(self, images: u64) -> usize
         requires { images ≤ 2 }
-        ensures { result ≡ self.members * self.sectors * images * 512 }
+        ensures { result ≡ self.members * self.sectors * images * SECTOR }
     {
         self.image() * images as usize * SECTOR
     }

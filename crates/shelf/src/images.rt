@@ -2,6 +2,8 @@
 ghost use Rattle.std.specs.Prelude.{◌≡◌, ◌+◌, ◌*◌, ◌<◌, ◌≤◌, length, vec_len, IfOk};
 ghost use Rattle.shelf.specs.Runs.{BlankOf, Cell, FitsRun, InLastImage, MadeOf, Pulled, sector_at, sector_put};
 ghost use Rattle.shelf.specs.Trials.{Brought, BroughtOne};
+ghost use Rattle.sector.specs.declared.TheConstants.{SECTOR};
+ghost use Rattle.sector.specs.declared.limits.TheConstants.{MOST_MEMBERS};
 
 use crate::controls::Controls;
 use crate::extent::Extent;
@@ -24,7 +26,7 @@ pub(crate) struct Images<const COUNT: u64> {
     bytes: Vec<u8>,
     ghost some: { 1 ≤ COUNT },
     ghost two: { COUNT ≤ 2 },
-    ghost held: { extent.members * extent.sectors * COUNT * 512 ≤ vec_len bytes },
+    ghost held: { extent.members * extent.sectors * COUNT * SECTOR ≤ vec_len bytes },
 }
 
 impl<const COUNT: u64> Images<COUNT> {
@@ -70,14 +72,14 @@ impl<const COUNT: u64> Images<COUNT> {
     // Where a sector lies in the first image, if it and a buffer of this length are in range.
     pub(crate) fn cell(&self, member: u64, sector: u64, length: usize) -> Result<usize, Failure>
         ensures cell { Cell self.now.extent.members self.now.extent.sectors member sector length result }
-        ensures few { self.now.extent.members ≤ 16 }
+        ensures few { self.now.extent.members ≤ MOST_MEMBERS }
     {
         self.extent.cell(member, sector, length)
     }
 
     // Sector `at` of the run. It and `store` ask that the sector is one of the run: it is an argument, which no field can bound.
     pub(crate) fn sector_at(&self, at: usize) -> &Sector
-        requires { at * 512 + 512 ≤ vec_len self.now.bytes }
+        requires { at * SECTOR + SECTOR ≤ vec_len self.now.bytes }
         ensures { result.now ≡ sector_at self.now.bytes.items at }
     {
         run::sector_at(&self.bytes, at)
@@ -94,7 +96,7 @@ impl<const COUNT: u64> Images<COUNT> {
 
     // Copies a content into sector `at` of the run.
     pub(crate) fn store(&mut self, at: usize, content: &Sector)
-        requires { at * 512 + 512 ≤ vec_len self.old.bytes }
+        requires { at * SECTOR + SECTOR ≤ vec_len self.old.bytes }
         ensures extent { self.new.extent ≡ self.old.extent }
         ensures size { vec_len self.new.bytes ≡ vec_len self.old.bytes }
         ensures content { self.new.bytes.items ≡ sector_put self.old.bytes.items at content.now }

@@ -4,6 +4,8 @@ ghost use Rattle.shelf.specs.Meaning.{Flushed, Reads, Restarts, Writes};
 ghost use Rattle.shelf.specs.Plains.{PlainFlushes, PlainMade, PlainReads, PlainRestarts, PlainWrites, Steady, plain_means};
 ghost use Rattle.shelf.specs.Runs.{BlankOf, FitsRun};
 ghost use Rattle.std.proofs.Common.{rules, arith};
+ghost use Rattle.sector.specs.declared.TheConstants.{SECTOR};
+ghost use Rattle.sector.specs.declared.limits.TheConstants.{MOST_MEMBERS};
 
 use crate::image::Image;
 use crate::images::Images;
@@ -57,7 +59,7 @@ impl PlainShelf {
     // The run of bytes, as the shelf left it.
     pub fn into_bytes(self) -> Vec<u8>
         ensures bytes { result.items ≡ self.run }
-        ensures held { self.members * self.sectors * 512 ≤ length result.items }
+        ensures held { self.members * self.sectors * SECTOR ≤ length result.items }
     {
         let PlainShelf { images } = self;
         images.into_bytes()
@@ -71,7 +73,7 @@ impl Shelf for PlainShelf {
 
     fn members(&self) -> u64
         ensures members { result ≡ self.now.members }
-        ensures few { result ≤ 16 }
+        ensures few { result ≤ MOST_MEMBERS }
     {
         self.images.extent.members
     }

@@ -1,6 +1,7 @@
 // Sectors in a run of bytes. That a sector lies in the run is asked of each caller: a run that is written is a slice, which has no field to carry it.
 ghost use Rattle.std.specs.Prelude.{◌≡◌, ◌+◌, ◌*◌, ◌≤◌, length, if◌then◌else◌};
 ghost use Rattle.shelf.specs.Runs.{Chosen, RunHasSector, Pulled, chosen_bit, sector_at, sector_put};
+ghost use Rattle.sector.specs.declared.TheConstants.{SECTOR};
 
 use crate::extent::Column;
 use sector::{SECTOR, Sector};
@@ -34,7 +35,7 @@ fn copy(run: &mut [u8], from: usize, to: usize)
 
 // Copies the sectors of a column from the second image into the first.
 pub(crate) fn pull(run: &mut [u8], column: Column)
-    requires { (column.image + column.end) * 512 ≤ length run.old }
+    requires { (column.image + column.end) * SECTOR ≤ length run.old }
     ensures { Pulled column.image column.start column.end run.old run.new }
 {
     for at in column.start..column.end {
@@ -64,7 +65,7 @@ fn choose_one(run: &mut [u8], choice: u32, image: usize, at: usize)
 
 // Makes each of the sectors of a column one with the one in the other image.
 pub(crate) fn choose(run: &mut [u8], choice: u32, column: Column)
-    requires { (column.image + column.end) * 512 ≤ length run.old }
+    requires { (column.image + column.end) * SECTOR ≤ length run.old }
     ensures { Chosen choice column.image column.start column.end run.old run.new }
 {
     for at in column.start..column.end {

@@ -5,6 +5,8 @@ ghost use Rattle.shelf.specs.Meaning.{Flushed, Reads, Restarts, Writes};
 ghost use Rattle.shelf.specs.Runs.{BlankOf, FitsRun};
 ghost use Rattle.shelf.specs.Trials.{Loses, ControlSet, TrialFlushes, TrialMade, TrialReads, TrialRestarts, TrialWrites, controlled, new_controls, means, with_choice, with_fuse};
 ghost use Rattle.std.proofs.Common.{rules, arith};
+ghost use Rattle.sector.specs.declared.TheConstants.{SECTOR};
+ghost use Rattle.sector.specs.declared.limits.TheConstants.{MOST_MEMBERS};
 
 use crate::controlled::Controlled;
 use crate::controls::Controls;
@@ -85,7 +87,7 @@ impl TrialShelf {
     // The run of bytes, both images, as the shelf left it.
     pub fn into_bytes(self) -> Vec<u8>
         ensures bytes { result.items ≡ self.run }
-        ensures held { self.members * self.sectors * 2 * 512 ≤ length result.items }
+        ensures held { self.members * self.sectors * 2 * SECTOR ≤ length result.items }
     {
         let TrialShelf {
             images,
@@ -151,7 +153,7 @@ impl Shelf for TrialShelf {
 
     fn members(&self) -> u64
         ensures members { result ≡ self.now.members }
-        ensures few { result ≤ 16 }
+        ensures few { result ≤ MOST_MEMBERS }
     {
         self.images.extent.members
     }
