@@ -6,6 +6,7 @@ ghost use Rattle.kinds.specs.Grids.{CellNumber, Used};
 ghost use Rattle.kinds.specs.Labels.{labelled};
 ghost use Rattle.kinds.specs.Limits.{Measured};
 ghost use Rattle.layout.specs.declared.TheConstants.{MOST_CHUNK, MOST_DEPTH};
+ghost use Rattle.sector.specs.declared.limits.TheConstants.{FEWEST_MEMBERS, MOST_MEMBERS};
 
 use layout::kind::Kind;
 use layout::label::Label;
@@ -23,7 +24,7 @@ pub struct Grid {
     pub(crate) members: u64,
     pub(crate) chunk: u64,
     pub(crate) chunks: u64,
-    ghost wide: { (2 ≤ members) × (members ≤ 16) },
+    ghost wide: { (FEWEST_MEMBERS ≤ members) × (members ≤ MOST_MEMBERS) },
     ghost thick: { (1 ≤ chunk) × (chunk ≤ MOST_CHUNK) },
     ghost high: { (1 ≤ chunks) × (chunks ≤ MOST_DEPTH) },
     ghost deep: { chunk * chunks ≤ MOST_DEPTH },
