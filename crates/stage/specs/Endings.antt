@@ -10,6 +10,7 @@ use Rattle.shelf.specs.Meaning.{Meaning}
 use Rattle.model.specs.Crew.{Crew}
 use Rattle.model.specs.Ends.{Stage}
 use Rattle.model.specs.Faults.{NamesSector}
+use Rattle.model.specs.Steps.{Passed, Step}
 use Rattle.stage.specs.Arrays.{crew_of}
 use Rattle.stage.specs.Looks.{HomeHas, homes_of}
 use Rattle.stage.specs.declared.array.Array.{Array}
@@ -34,6 +35,10 @@ pub record OnMember (does : Operation → Bool) (a : Meaning) (f : Fault) : Type
 -- done, or met at an operation on a member that was there
 abbrev pub StageEnds : {A : Type 0} → Crew → (does : Operation → Bool) → (ℕ → ℕ → List ℕ → Type 0) → (a b : Meaning) → Result A Refused → Type 0
 StageEnds w does P a b r = Stage w P (OnMember does a) a b (λ _. Unit {0}) r
+
+-- a stage that is one step: done, that was carried out, and met, it is torn
+abbrev pub Carries : Crew → (does : Operation → Bool) → Step → (a b : Meaning) → Result Unit Refused → Type 0
+Carries w does f a b r = Stage w (λ k s x. x ≡ f a.current k s) (OnMember does a) a b (λ u. Passed w f a b) r
 
 -- every sector below the size can be had
 pub record HasSize (w : Crew) (homes : ℕ → Home) (source target : Geometry) (backup size : ℕ) (a : Meaning) : Type 0 where
