@@ -13,13 +13,13 @@ use Rattle.model.specs.Faults.{OnHeads}
 use Rattle.stage.specs.Done.{Spread}
 use Rattle.model.specs.Ends.{GoesOn, Met}
 use Rattle.model.specs.May.{AtSector, May}
-use Rattle.head.specs.declared.TheConstants.{MOST_NUMBER}
+use Rattle.head.specs.declared.TheConstants.{HEAD_AT, MOST_NUMBER}
 
 -- head k stands on every member that is there
 pub record Stood (w : Crew) (a b : Meaning) (k : Head) : Type 0 where
-  pub may : May (AtSector 0 (head_bytes k)) a b
+  pub may : May (AtSector HEAD_AT (head_bytes k)) a b
   pub goes : GoesOn w a b
-  pub spread : Spread 0 (head_bytes k) b
+  pub spread : Spread HEAD_AT (head_bytes k) b
 
 -- no number is left, and nothing was done
 pub record Spent (h : Head) (a b : Meaning) (e : Refused) : Type 0 where
@@ -31,7 +31,7 @@ pub record Spent (h : Head) (a b : Meaning) (e : Refused) : Type 0 where
 pub record Midway (w : Crew) (h : Head) (s : Label) (p : Progress) (i : Option ℕ) (a b : Meaning) (e : Refused) : Type 0 where
   pub head : Head
   pub next : Next h s p i head
-  pub may : May (AtSector 0 (head_bytes head)) a b
+  pub may : May (AtSector HEAD_AT (head_bytes head)) a b
   pub met : Met w (OnHeads a) b e
 
 -- from the last checkpoint h to k

@@ -3,6 +3,7 @@ use Rattle.std.specs.Prelude.{◌≡◌, ℕ, ◌<◌, ◌≤◌, Bool, true, fa
 use Rattle.answer.specs.declared.Refusal.TheVariants.{MembersLost, PowerLost}
 use Rattle.answer.specs.declared.Fault.{Fault}
 use Rattle.answer.specs.declared.Refused.{Refused}
+use Rattle.sector.specs.declared.TheConstants.{SECTOR}
 use Rattle.shelf.specs.Answers.{Answer}
 use Rattle.shelf.specs.Meaning.{Meaning}
 use Rattle.shelf.specs.declared.Failure.TheVariants.{Absent, Off, OutOfRange}
@@ -31,7 +32,7 @@ FlushedAt m b = b.present m ≡ true → (s : ℕ) → b.durable m s ≡ b.curre
 -- what is current in a sector, and zeros from the shelf's sectors on
 pub record Holds (m t : ℕ) (b : Meaning) (content : List ℕ) : Type 0 where
   pub inside : t < b.sectors → content ≡ b.current m t
-  pub past : b.sectors ≤ t → content ≡ replicate 512 0
+  pub past : b.sectors ≤ t → content ≡ replicate SECTOR 0
 
 -- a read gives what is current there, or the member is not there
 abbrev pub ReadAt : (m t : ℕ) → Meaning → Option (List ℕ) → Type 0

@@ -9,6 +9,7 @@ use Rattle.layout.specs.Geometry.{Geometry, capacity}
 use Rattle.layout.specs.declared.TheConstants.{MOST_DEPTH}
 use Rattle.overlap.specs.declared.walk.Home.{Home}
 use Rattle.overlap.specs.declared.walk.Home.TheVariants.{Source, Target, Backup}
+use Rattle.head.specs.declared.TheConstants.{SLOTS_AT}
 use Rattle.head.specs.Heads.{kept_rows, settled_rows}
 use Rattle.shelf.specs.Meaning.{Meaning}
 use Rattle.model.specs.Contents.{at, home_in}
@@ -24,7 +25,7 @@ use Rattle.stage.specs.declared.array.Array.{Array}
 pub record OnBody (op : Operation) (backup : ℕ) (a : Meaning) (f : Fault) : Type 0 where
   pub operation : f.operation ≡ op
   pub there : a.present f.member ≡ true
-  pub sector : 3 + backup ≤ f.sector
+  pub sector : SLOTS_AT + backup ≤ f.sector
   pub inside : NamesSector op f.sector a
   pub row : f.row ≡ None
 
@@ -40,7 +41,7 @@ pub record OneSure (w : Crew) (t : ℕ) (a : Meaning) : Type 0 where
 -- what lies at a place, read of a member that is there
 pub record Lies (backup : ℕ) (p : ℕ × ℕ) (b : Meaning) (content : List ℕ) : Type 0 where
   pub there : b.present p.0 ≡ true
-  pub is : p.1 < MOST_DEPTH → 3 + backup + p.1 < b.sectors → content ≡ at b backup p
+  pub is : p.1 < MOST_DEPTH → SLOTS_AT + backup + p.1 < b.sectors → content ≡ at b backup p
 
 abbrev pub ReadPlace : ℕ → ℕ × ℕ → Meaning → Option (List ℕ) → Type 0
 ReadPlace backup p b (Some content) = Lies backup p b content
@@ -48,7 +49,7 @@ ReadPlace backup p b None = b.present p.0 ≡ false
 
 -- a content with what lies at a place folded in
 pub record FoldsPlace (backup : ℕ) (p : ℕ × ℕ) (b : Meaning) (old new : List ℕ) : Type 0 where
-  pub is : p.1 < MOST_DEPTH → 3 + backup + p.1 < b.sectors → new ≡ folded old (at b backup p)
+  pub is : p.1 < MOST_DEPTH → SLOTS_AT + backup + p.1 < b.sectors → new ≡ folded old (at b backup p)
 
 -- the first n contents folded into one, those left out that are skipped
 abbrev pub gathered_on : (ℕ → Bool) → (ℕ → List ℕ) → List ℕ → ℕ → List ℕ
@@ -118,7 +119,7 @@ HomeHas Backup w s t backup i a = InUse w s backup a
 
 -- an operation on a place or on a slot
 abbrev pub OnHome : Operation → (backup i : ℕ) → Meaning → Fault → Type 0
-OnHome op backup i a = Either (OnBody op backup a) (OnSector op a (3 + i % backup))
+OnHome op backup i a = Either (OnBody op backup a) (OnSector op a (SLOTS_AT + i % backup))
 
 abbrev pub ShowsSector : Home → Crew → (source target : Geometry) → (backup i : ℕ) → (a b : Meaning) → Result (List ℕ) Refused → Type 0
 ShowsSector h w s t backup i a b r = Shows w (OnHome Read backup i a) a b (λ m. content_at h s t m backup i) r

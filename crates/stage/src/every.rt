@@ -2,6 +2,7 @@
 ghost use Rattle.answer.specs.declared.Operation.TheVariants.{Read, Write, Flush};
 ghost use Rattle.std.specs.Prelude.{OnOk};
 ghost use Rattle.head.specs.Heads.{Fits, head_bytes};
+ghost use Rattle.head.specs.declared.TheConstants.{HEAD_AT};
 ghost use Rattle.stage.specs.Arrays.{crew_of};
 ghost use Rattle.stage.specs.Done.{FlushedAll, ReadAny, Spread, WrittenAll};
 ghost use Rattle.model.specs.Faults.{OnHeads, OnSector};
@@ -60,7 +61,7 @@ impl<L: Layout> Array<L> {
 
     // Makes a head the last one on every present member.
     pub fn spread<S: Shelf>(&self, shelf: &mut S, head: &Head) -> Result<(), Refused>
-        ensures stage { Stage (crew_of L.geometry self.now) (AtSector 0 (head_bytes head.now)) (OnHeads (S.meaning shelf.old)) (S.meaning shelf.old) (S.meaning shelf.new) (λ _. Spread 0 (head_bytes head.now) (S.meaning shelf.new)) result }
+        ensures stage { Stage (crew_of L.geometry self.now) (AtSector HEAD_AT (head_bytes head.now)) (OnHeads (S.meaning shelf.old)) (S.meaning shelf.old) (S.meaning shelf.new) (λ _. Spread HEAD_AT (head_bytes head.now) (S.meaning shelf.new)) result }
         ensures fits { OnOk result (Fits head.now) }
     {
         self.write_all(shelf, HEAD_AT, &head.encode())?;

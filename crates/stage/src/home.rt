@@ -1,5 +1,6 @@
 // Where the sectors of a volume live.
 ghost use Rattle.std.specs.Prelude.{◌≡◌, ◌+◌, ◌%◌, MatchOption};
+ghost use Rattle.head.specs.declared.TheConstants.{SLOTS_AT};
 ghost use Rattle.overlap.specs.declared.walk.Home.TheVariants.{Backup};
 ghost use Rattle.stage.specs.Looks.{InLayout, homes_of};
 ghost use Rattle.stage.specs.Walks.{WalkOf};
@@ -45,14 +46,14 @@ impl<L: Layout> Array<L> {
 
     // The shelf sector at which a member's body begins, after the backup slots.
     pub(crate) fn body(&self) -> u64
-        ensures { result ≡ 3 + self.now.head.backup }
+        ensures { result ≡ SLOTS_AT + self.now.head.backup }
     {
         SLOTS_AT + u64::from(self.head.backup)
     }
 
     // The shelf sector of the backup slot of a sector.
     pub(crate) fn slot(&self, sector: u64) -> u64
-        ensures { result ≡ 3 + sector % self.now.head.backup }
+        ensures { result ≡ SLOTS_AT + sector % self.now.head.backup }
     {
         SLOTS_AT + sector % u64::from(self.head.backup)
     }

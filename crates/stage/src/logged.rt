@@ -1,6 +1,7 @@
 // A write, by way of the log.
 ghost use Rattle.std.specs.Prelude.{◌+◌, ◌%◌};
 ghost use Rattle.answer.specs.declared.Operation.TheVariants.{Write};
+ghost use Rattle.head.specs.declared.TheConstants.{LOGGED_DATUM_AT, LOGGED_PARITY_AT, SLOTS_AT};
 ghost use Rattle.model.specs.Ends.{Stage};
 ghost use Rattle.model.specs.Faults.{OnSector};
 ghost use Rattle.model.specs.May.{AtSector, EitherPlan, From, May, OneFrom};
@@ -28,7 +29,7 @@ pub struct Entry<'a> {
 impl<L: Layout> Array<L> {
     // Puts a write into the log on every present member. Nothing rests on it until a head is armed for it.
     pub fn log<S: Shelf>(&self, shelf: &mut S, entry: Entry) -> Result<(), Refused>
-        ensures { StageEnds (crew_of L.geometry self.now) only_writes (EitherPlan (AtSector 1 entry.entry.datum.now) (AtSector 2 entry.entry.parity.now)) (S.meaning shelf.old) (S.meaning shelf.new) result }
+        ensures { StageEnds (crew_of L.geometry self.now) only_writes (EitherPlan (AtSector LOGGED_DATUM_AT entry.entry.datum.now) (AtSector LOGGED_PARITY_AT entry.entry.parity.now)) (S.meaning shelf.old) (S.meaning shelf.new) result }
     {
         self.write_all(shelf, LOGGED_DATUM_AT, entry.datum)?;
         self.write_all(shelf, LOGGED_PARITY_AT, entry.parity)?;
@@ -37,7 +38,7 @@ impl<L: Layout> Array<L> {
 
     // Carries a logged write out: every place of the sector's home, and durable.
     pub fn apply<S: Shelf>(&self, shelf: &mut S, entry: Entry) -> Result<(), Refused>
-        ensures { StageEnds (crew_of L.geometry self.now) only_writes (EitherPlan (OneFrom 3 entry.entry.datum.now) (OneFrom 3 entry.entry.parity.now)) (S.meaning shelf.old) (S.meaning shelf.new) result }
+        ensures { StageEnds (crew_of L.geometry self.now) only_writes (EitherPlan (OneFrom SLOTS_AT entry.entry.datum.now) (OneFrom SLOTS_AT entry.entry.parity.now)) (S.meaning shelf.old) (S.meaning shelf.new) result }
     {
         self.write_home(shelf, entry)?;
         self.flush_all(shelf)
@@ -45,7 +46,7 @@ impl<L: Layout> Array<L> {
 
     // Writes every place of a sector's home.
     fn write_home<S: Shelf>(&self, shelf: &mut S, entry: Entry) -> Result<(), Refused>
-        ensures { StageEnds (crew_of L.geometry self.now) only_writes (EitherPlan (OneFrom 3 entry.entry.datum.now) (OneFrom 3 entry.entry.parity.now)) (S.meaning shelf.old) (S.meaning shelf.new) result }
+        ensures { StageEnds (crew_of L.geometry self.now) only_writes (EitherPlan (OneFrom SLOTS_AT entry.entry.datum.now) (OneFrom SLOTS_AT entry.entry.parity.now)) (S.meaning shelf.old) (S.meaning shelf.new) result }
     {
         match self.home_layout(entry.sector) {
             Some(layout) => self.write_places(shelf, layout, entry),
@@ -55,8 +56,8 @@ impl<L: Layout> Array<L> {
 
     // Carries out again the write that stands in the log.
     pub fn redo<S: Shelf>(&self, shelf: &mut S, sector: u64) -> Result<(), Refused>
-        ensures may { May (From 3) (S.meaning shelf.old) (S.meaning shelf.new) }
-        ensures ends { InUse (crew_of L.geometry self.now) (L.geometry self.now.source) self.now.head.backup (S.meaning shelf.old) → StageEnds (crew_of L.geometry self.now) reads_and_writes (From 3) (S.meaning shelf.old) (S.meaning shelf.new) result }
+        ensures may { May (From SLOTS_AT) (S.meaning shelf.old) (S.meaning shelf.new) }
+        ensures ends { InUse (crew_of L.geometry self.now) (L.geometry self.now.source) self.now.head.backup (S.meaning shelf.old) → StageEnds (crew_of L.geometry self.now) reads_and_writes (From SLOTS_AT) (S.meaning shelf.old) (S.meaning shelf.new) result }
     {
         let datum = self.read_held(shelf, LOGGED_DATUM_AT)?;
         let parity = self.read_held(shelf, LOGGED_PARITY_AT)?;
@@ -77,14 +78,14 @@ impl<L: Layout> Array<L> {
         sector: u64,
         content: &Sector,
     ) -> Result<(), Refused>
-        ensures { let slot = 3 + sector % self.now.head.backup in Stage (crew_of L.geometry self.now) (AtSector slot content.now) (OnSector Write (S.meaning shelf.old) slot) (S.meaning shelf.old) (S.meaning shelf.new) (λ _. WrittenAll slot content.now (S.meaning shelf.new)) result }
+        ensures { let slot = SLOTS_AT + sector % self.now.head.backup in Stage (crew_of L.geometry self.now) (AtSector slot content.now) (OnSector Write (S.meaning shelf.old) slot) (S.meaning shelf.old) (S.meaning shelf.new) (λ _. WrittenAll slot content.now (S.meaning shelf.new)) result }
     {
         self.write_all(shelf, self.slot(sector), content)
     }
 
     // Writes all copies of a sector and the parity of its group.
     fn write_places<S: Shelf>(&self, shelf: &mut S, layout: &L, entry: Entry) -> Result<(), Refused>
-        ensures { StageEnds (crew_of L.geometry self.now) only_writes (EitherPlan (OneFrom (3 + self.now.head.backup) entry.entry.datum.now) (OneFrom (3 + self.now.head.backup) entry.entry.parity.now)) (S.meaning shelf.old) (S.meaning shelf.new) result }
+        ensures { StageEnds (crew_of L.geometry self.now) only_writes (EitherPlan (OneFrom (SLOTS_AT + self.now.head.backup) entry.entry.datum.now) (OneFrom (SLOTS_AT + self.now.head.backup) entry.entry.parity.now)) (S.meaning shelf.old) (S.meaning shelf.new) result }
     {
         self.write_copies(shelf, layout, entry.sector, entry.datum)?;
         match layout.group(entry.sector) {
@@ -101,7 +102,7 @@ impl<L: Layout> Array<L> {
         sector: u64,
         datum: &Sector,
     ) -> Result<(), Refused>
-        ensures { StageEnds (crew_of L.geometry self.now) only_writes (OneFrom (3 + self.now.head.backup) datum.now) (S.meaning shelf.old) (S.meaning shelf.new) result }
+        ensures { StageEnds (crew_of L.geometry self.now) only_writes (OneFrom (SLOTS_AT + self.now.head.backup) datum.now) (S.meaning shelf.old) (S.meaning shelf.new) result }
     {
         for copy in 0..layout.copies() {
             self.write_place(shelf, layout.place(sector, copy), datum)?;
@@ -115,7 +116,7 @@ impl<L: Layout> Array<L> {
         place: Place,
         content: &Sector,
     ) -> Result<(), Refused>
-        ensures { StageEnds (crew_of L.geometry self.now) only_writes (OneFrom (3 + self.now.head.backup) content.now) (S.meaning shelf.old) (S.meaning shelf.new) result }
+        ensures { StageEnds (crew_of L.geometry self.now) only_writes (OneFrom (SLOTS_AT + self.now.head.backup) content.now) (S.meaning shelf.old) (S.meaning shelf.new) result }
     {
         let (member, offset) = place;
         self.write_at(shelf, member, self.body().saturating_add(offset), content)

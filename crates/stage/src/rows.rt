@@ -1,5 +1,7 @@
 // Whole rows: saved into the backup slots, placed in the target, or cleared.
 ghost use Rattle.std.specs.Prelude.{◌+◌, ◌≤◌, replicate};
+ghost use Rattle.sector.specs.declared.TheConstants.{SECTOR};
+ghost use Rattle.head.specs.declared.TheConstants.{SLOTS_AT};
 ghost use Rattle.model.specs.May.{From, InSlots, May, OneFrom, nothing};
 ghost use Rattle.stage.specs.Arrays.{crew_of};
 ghost use Rattle.stage.specs.Endings.{HasVolume, StageEnds, only_writes, reads_and_writes};
@@ -36,8 +38,8 @@ impl<L: Layout> Array<L> {
 
     // Writes all places of a target row as a fresh placement has them, and persists them.
     pub fn place_row<S: Shelf>(&self, shelf: &mut S, sectors: Range<u64>) -> Result<(), Refused>
-        ensures may { May (From (3 + self.now.head.backup)) (S.meaning shelf.old) (S.meaning shelf.new) }
-        ensures ends { HasVolume L.geometry self.now (S.meaning shelf.old) → StageEnds (crew_of L.geometry self.now) reads_and_writes (From (3 + self.now.head.backup)) (S.meaning shelf.old) (S.meaning shelf.new) result }
+        ensures may { May (From (SLOTS_AT + self.now.head.backup)) (S.meaning shelf.old) (S.meaning shelf.new) }
+        ensures ends { HasVolume L.geometry self.now (S.meaning shelf.old) → StageEnds (crew_of L.geometry self.now) reads_and_writes (From (SLOTS_AT + self.now.head.backup)) (S.meaning shelf.old) (S.meaning shelf.new) result }
     {
         for sector in sectors.start..sectors.end {
             self.place_led(shelf, sector)?;
@@ -47,8 +49,8 @@ impl<L: Layout> Array<L> {
 
     // Writes a sector to the target, with its group if it leads one.
     fn place_led<S: Shelf>(&self, shelf: &mut S, sector: u64) -> Result<(), Refused>
-        ensures may { May (From (3 + self.now.head.backup)) (S.meaning shelf.old) (S.meaning shelf.new) }
-        ensures ends { HasVolume L.geometry self.now (S.meaning shelf.old) → StageEnds (crew_of L.geometry self.now) reads_and_writes (From (3 + self.now.head.backup)) (S.meaning shelf.old) (S.meaning shelf.new) result }
+        ensures may { May (From (SLOTS_AT + self.now.head.backup)) (S.meaning shelf.old) (S.meaning shelf.new) }
+        ensures ends { HasVolume L.geometry self.now (S.meaning shelf.old) → StageEnds (crew_of L.geometry self.now) reads_and_writes (From (SLOTS_AT + self.now.head.backup)) (S.meaning shelf.old) (S.meaning shelf.new) result }
     {
         match self.target.group(sector) {
             None => self.place_sector(shelf, sector),
@@ -60,8 +62,8 @@ impl<L: Layout> Array<L> {
 
     // Writes a sector to its copies in the target.
     fn place_sector<S: Shelf>(&self, shelf: &mut S, sector: u64) -> Result<(), Refused>
-        ensures may { May (From (3 + self.now.head.backup)) (S.meaning shelf.old) (S.meaning shelf.new) }
-        ensures ends { HasVolume L.geometry self.now (S.meaning shelf.old) → StageEnds (crew_of L.geometry self.now) reads_and_writes (From (3 + self.now.head.backup)) (S.meaning shelf.old) (S.meaning shelf.new) result }
+        ensures may { May (From (SLOTS_AT + self.now.head.backup)) (S.meaning shelf.old) (S.meaning shelf.new) }
+        ensures ends { HasVolume L.geometry self.now (S.meaning shelf.old) → StageEnds (crew_of L.geometry self.now) reads_and_writes (From (SLOTS_AT + self.now.head.backup)) (S.meaning shelf.old) (S.meaning shelf.new) result }
     {
         let content = self.content_ahead(shelf, sector)?;
         self.write_copies(shelf, &self.target, sector, &content)
@@ -69,8 +71,8 @@ impl<L: Layout> Array<L> {
 
     // Writes the sectors of a group and their parity to the target.
     fn place_group<S: Shelf>(&self, shelf: &mut S, group: u64) -> Result<(), Refused>
-        ensures may { May (From (3 + self.now.head.backup)) (S.meaning shelf.old) (S.meaning shelf.new) }
-        ensures ends { HasVolume L.geometry self.now (S.meaning shelf.old) → StageEnds (crew_of L.geometry self.now) reads_and_writes (From (3 + self.now.head.backup)) (S.meaning shelf.old) (S.meaning shelf.new) result }
+        ensures may { May (From (SLOTS_AT + self.now.head.backup)) (S.meaning shelf.old) (S.meaning shelf.new) }
+        ensures ends { HasVolume L.geometry self.now (S.meaning shelf.old) → StageEnds (crew_of L.geometry self.now) reads_and_writes (From (SLOTS_AT + self.now.head.backup)) (S.meaning shelf.old) (S.meaning shelf.new) result }
     {
         let mut parity = zeros();
         for index in 0..self.target.peers(group) {
@@ -96,7 +98,7 @@ impl<L: Layout> Array<L> {
 
     // Zeroes every place of the source that has an owner, and persists it.
     pub fn clear<S: Shelf>(&self, shelf: &mut S) -> Result<(), Refused>
-        ensures { StageEnds (crew_of L.geometry self.now) only_writes (OneFrom (3 + self.now.head.backup) (replicate 512 0)) (S.meaning shelf.old) (S.meaning shelf.new) result }
+        ensures { StageEnds (crew_of L.geometry self.now) only_writes (OneFrom (SLOTS_AT + self.now.head.backup) (replicate SECTOR 0)) (S.meaning shelf.old) (S.meaning shelf.new) result }
     {
         for member in 0..self.source.members() {
             self.clear_member(shelf, member)?;
@@ -105,7 +107,7 @@ impl<L: Layout> Array<L> {
     }
 
     fn clear_member<S: Shelf>(&self, shelf: &mut S, member: u64) -> Result<(), Refused>
-        ensures { StageEnds (crew_of L.geometry self.now) only_writes (OneFrom (3 + self.now.head.backup) (replicate 512 0)) (S.meaning shelf.old) (S.meaning shelf.new) result }
+        ensures { StageEnds (crew_of L.geometry self.now) only_writes (OneFrom (SLOTS_AT + self.now.head.backup) (replicate SECTOR 0)) (S.meaning shelf.old) (S.meaning shelf.new) result }
     {
         for offset in 0..self.source.depth() {
             if self.source.owner((member, offset)) == Owner::Nobody {
@@ -117,7 +119,7 @@ impl<L: Layout> Array<L> {
     }
 
     fn clear_place<S: Shelf>(&self, shelf: &mut S, place: Place) -> Result<(), Refused>
-        ensures { StageEnds (crew_of L.geometry self.now) only_writes (OneFrom (3 + self.now.head.backup) (replicate 512 0)) (S.meaning shelf.old) (S.meaning shelf.new) result }
+        ensures { StageEnds (crew_of L.geometry self.now) only_writes (OneFrom (SLOTS_AT + self.now.head.backup) (replicate SECTOR 0)) (S.meaning shelf.old) (S.meaning shelf.new) result }
     {
         self.write_place(shelf, place, &zeros())
     }
