@@ -24,14 +24,6 @@ pub record Going (w : Crew) (P : ℕ → ℕ → List ℕ → Type 0) (a b : Mea
   pub may : May P a b
   pub goes : GoesOn w a b
 
--- whatever is done is done by the wider plan, and met by the wider names
-pub stage_ends : {A : Type 0} (w : Crew) (does : Operation → Bool) (P Q : ℕ → ℕ → List ℕ → Type 0) (F : Fault → Type 0) (a b : Meaning) (D : A → Type 0)
-    → ((k s : ℕ) (x : List ℕ) → Q k s x → P k s x) → ((f : Fault) → F f → OnMember does a f) → (r : Result A Refused) → Stage w Q F a b D r
-    → StageEnds w does P a b r
-stage_ends w does P Q F a b D wider names (Ok x) s = (may_wider wider s.0, s.1, tt)
-stage_ends w does P Q F a b D wider names (Err e) s =
-    (may_wider wider s.0, record { why = s.1.why; fault = names_as F (OnMember does a) names e.fault s.1.fault })
-
 -- who was there later was there before
 pub member_same : {does : Operation → Bool} {P : ℕ → ℕ → List ℕ → Type 0} {a b : Meaning} → May P a b → (f : Fault) → OnMember does b f
     → OnMember does a f
@@ -54,28 +46,36 @@ writes_too Read w = refl
 writes_too Write w = refl
 writes_too Flush w = refl
 
-pub ends_after : {A : Type 0} {w : Crew} (does : Operation → Bool) {P : ℕ → ℕ → List ℕ → Type 0} {a b : Meaning} (c : Meaning) → Going w P a b
-    → (r : Result A Refused) → StageEnds w does P b c r → StageEnds w does P a c r
-ends_after does c g (Ok x) s = (may_then g.may s.0, goes_then g.goes s.1, tt)
-ends_after {A} {w} does {P} {a} {b} c g (Err e) s =
-    (may_then g.may s.0, record { why = s.1.why; fault = names_as (OnMember does b) (OnMember does a) (member_same g.may) e.fault s.1.fault })
-
--- the same of a call that was met
+-- a stage that was met, by a wider plan and wider names
 pub met_ends : (w : Crew) (does : Operation → Bool) (P Q : ℕ → ℕ → List ℕ → Type 0) (F : Fault → Type 0) (a b : Meaning)
     → ((k s : ℕ) (x : List ℕ) → Q k s x → P k s x) → ((f : Fault) → F f → OnMember does a f) → (e : Refused) → May Q a b × Met w F b e
     → May P a b × Met w (OnMember does a) b e
 met_ends w does P Q F a b wider names e s =
     (may_wider wider s.0, record { why = s.1.why; fault = names_as F (OnMember does a) names e.fault s.1.fault })
 
+-- the same, done or met
+pub stage_ends : {A : Type 0} (w : Crew) (does : Operation → Bool) (P Q : ℕ → ℕ → List ℕ → Type 0) (F : Fault → Type 0) (a b : Meaning) (D : A → Type 0)
+    → ((k s : ℕ) (x : List ℕ) → Q k s x → P k s x) → ((f : Fault) → F f → OnMember does a f) → (r : Result A Refused) → Stage w Q F a b D r
+    → StageEnds w does P a b r
+stage_ends w does P Q F a b D wider names (Ok x) s = (may_wider wider s.0, s.1, tt)
+stage_ends w does P Q F a b D wider names (Err e) s = met_ends w does P Q F a b wider names e s
+
+-- a stage that was met, after what came before it
 pub met_after : {w : Crew} {does : Operation → Bool} {P : ℕ → ℕ → List ℕ → Type 0} {a b : Meaning} (c : Meaning) → Going w P a b → (e : Refused)
     → May P b c × Met w (OnMember does b) c e → May P a c × Met w (OnMember does a) c e
 met_after {w} {does} {P} {a} {b} c g e s =
     (may_then g.may s.0, record { why = s.1.why; fault = names_as (OnMember does b) (OnMember does a) (member_same g.may) e.fault s.1.fault })
 
+-- the same, done or met
+pub ends_after : {A : Type 0} {w : Crew} (does : Operation → Bool) {P : ℕ → ℕ → List ℕ → Type 0} {a b : Meaning} (c : Meaning) → Going w P a b
+    → (r : Result A Refused) → StageEnds w does P b c r → StageEnds w does P a c r
+ends_after does c g (Ok x) s = (may_then g.may s.0, goes_then g.goes s.1, tt)
+ends_after does c g (Err e) s = met_after c g e s
+
 pub going_then : {w : Crew} {P : ℕ → ℕ → List ℕ → Type 0} {a b c : Meaning} → Going w P a b → May P b c → GoesOn w b c → Going w P a c
 going_then g m go = record { may = may_then g.may m; goes = goes_then g.goes go }
 
--- A fault of one operation on one sector of a member that was there, whatever else is known of it.
+-- a fault of one operation on one sector of a member that was there is one of a stage that does such operations
 one_of : {does : Operation → Bool} (op : Operation) → does op ≡ true → (a : Meaning) (t : ℕ) (f : Fault) → f.operation ≡ op → f.sector ≡ t
     → NamesSector op t a → a.present f.member ≡ true → f.row ≡ None → OnMember does a f
 one_of {does} op o a t f is at inside there row = record {
@@ -85,6 +85,7 @@ one_of {does} op o a t f is at inside there row = record {
   row = row;
 }
 
+-- so are those of an operation on one member, on every member, on a place, and on the home of a sector
 pub on_cell : {does : Operation → Bool} (op : Operation) → does op ≡ true → (a : Meaning) (m t : ℕ) (f : Fault) → OnCell op a m t f → OnMember does a f
 on_cell op o a m t f n = one_of op o a t f n.operation n.sector n.inside n.there n.row
 

@@ -55,6 +55,7 @@ put_by (Err Absent) m t c a b tells sets = tt
 put_by (Err Off) m t c a b tells sets = tt
 put_by (Err OutOfRange) m t c a b tells sets = absurd tells
 
+-- a sector that the shelf has is inside, whatever the answer
 inside_by : (r : Answer) (t : ℕ) (a : Meaning) → t < a.sectors → Inside r t a
 inside_by (Ok x) t a lt = lt
 inside_by (Err Absent) t a lt = lt
