@@ -1,6 +1,7 @@
 pub mod Mays
 pub mod Readable
 pub mod Runs
+pub mod Seeing
 pub mod WorkedAnswers
 pub mod WorkedCalls
 pub mod Working
