@@ -10,7 +10,7 @@ use Rattle.stage.specs.Done.{FlushedAll, Spread, WrittenAll}
 use Rattle.model.specs.Faults.{OnHeads, OnSector}
 use Rattle.model.specs.Ends.{GoesOn, Names, Stage}
 use Rattle.model.specs.May.{AtSector, May, nothing}
-use Rattle.stage.proofs.Loops.{goes_then, holds_stays, was_present}
+use Rattle.stage.proofs.Loops.{goes_then, holds_stays, names_same, was_present}
 use Rattle.model.proofs.Mays.{may_then, may_wider}
 
 pub names_as : (F G : Fault → Type 0) → ((f : Fault) → F f → G f) → (o : Option Fault) → Names F o → Names G o
@@ -38,6 +38,7 @@ sector_same op t m f n = record {
   member = (let lt = n.member in let same = m.members in omega (arith, lt, same));
   there = was_present m f.member n.there;
   sector = n.sector;
+  inside = names_same op t _ _ m.sectors n.inside;
   row = n.row;
 }
 

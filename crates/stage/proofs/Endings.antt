@@ -1,21 +1,22 @@
 -- Stages that write: done, or met at an operation on a member that was there.
-use Rattle.std.proofs.Common.{◌≡◌, ℕ, ◌+◌, ◌<◌, true, List, Ok, Err, Result, inl, inr, sym, subst, arith}
+use Rattle.std.proofs.Common.{◌≡◌, ℕ, ◌+◌, ◌<◌, Bool, true, List, None, Ok, Err, Result, inl, inr, refl, sym, subst, arith}
 use Rattle.answer.specs.declared.Fault.{Fault}
 use Rattle.answer.specs.declared.Operation.{Operation}
+use Rattle.answer.specs.declared.Operation.TheVariants.{Flush, Read, Restart, Write}
 use Rattle.answer.specs.declared.Refused.{Refused}
 use Rattle.shelf.specs.Meaning.{Meaning}
 use Rattle.model.specs.Crew.{Crew}
 use Rattle.model.specs.Ends.{GoesOn, Met, Stage}
-use Rattle.model.specs.Faults.{OnCell, OnSector}
+use Rattle.model.specs.Faults.{NamesSector, OnCell, OnSector}
 use Rattle.model.specs.May.{AtSector, InSlots, May, nothing}
 use Rattle.overlap.specs.declared.walk.Home.{Home}
 use Rattle.overlap.specs.declared.walk.Home.TheVariants.{Source, Target, Backup}
 use Rattle.layout.specs.Geometry.{Geometry}
-use Rattle.stage.specs.Endings.{StageEnds, HasSize, OnMember, of_member}
+use Rattle.stage.specs.Endings.{HasSize, OnMember, StageEnds, only_writes, reads_and_writes}
 use Rattle.stage.specs.Looks.{HomeHas, OnBody, OnHome}
 use Rattle.stage.proofs.Places.{use_kept}
 use Rattle.stage.proofs.Chains.{names_as}
-use Rattle.stage.proofs.Loops.{goes_then, was_present}
+use Rattle.stage.proofs.Loops.{goes_then, names_same, was_present}
 use Rattle.model.proofs.Mays.{may_then, may_wider}
 
 -- a stage that has come so far
@@ -23,43 +24,74 @@ pub record Going (w : Crew) (P : ℕ → ℕ → List ℕ → Type 0) (a b : Mea
   pub may : May P a b
   pub goes : GoesOn w a b
 
-pub stage_ends : {A : Type 0} (w : Crew) (P Q : ℕ → ℕ → List ℕ → Type 0) (F : Fault → Type 0) (a b : Meaning) (D : A → Type 0)
-    → ((k s : ℕ) (x : List ℕ) → Q k s x → P k s x) → ((f : Fault) → F f → OnMember a f) → (r : Result A Refused) → Stage w Q F a b D r → StageEnds w P a b r
-stage_ends w P Q F a b D wider names (Ok x) s = (may_wider wider s.0, s.1, tt)
-stage_ends w P Q F a b D wider names (Err e) s = (may_wider wider s.0, record { why = s.1.why; fault = names_as F (OnMember a) names e.fault s.1.fault })
+-- whatever is done is done by the wider plan, and met by the wider names
+pub stage_ends : {A : Type 0} (w : Crew) (does : Operation → Bool) (P Q : ℕ → ℕ → List ℕ → Type 0) (F : Fault → Type 0) (a b : Meaning) (D : A → Type 0)
+    → ((k s : ℕ) (x : List ℕ) → Q k s x → P k s x) → ((f : Fault) → F f → OnMember does a f) → (r : Result A Refused) → Stage w Q F a b D r → StageEnds w does P a b r
+stage_ends w does P Q F a b D wider names (Ok x) s = (may_wider wider s.0, s.1, tt)
+stage_ends w does P Q F a b D wider names (Err e) s =
+    (may_wider wider s.0, record { why = s.1.why; fault = names_as F (OnMember does a) names e.fault s.1.fault })
 
-pub member_same : {P : ℕ → ℕ → List ℕ → Type 0} {a b : Meaning} → May P a b → (f : Fault) → OnMember b f → OnMember a f
-member_same m f n = record { operation = n.operation; there = was_present m f.member n.there; row = n.row }
+-- who was there later was there before
+pub member_same : {does : Operation → Bool} {P : ℕ → ℕ → List ℕ → Type 0} {a b : Meaning} → May P a b → (f : Fault) → OnMember does b f → OnMember does a f
+member_same m f n = record {
+  operation = n.operation;
+  there = was_present m f.member n.there;
+  sector = names_same f.operation f.sector _ _ m.sectors n.sector;
+  row = n.row;
+}
 
-pub ends_after : {A : Type 0} {w : Crew} {P : ℕ → ℕ → List ℕ → Type 0} {a b : Meaning} (c : Meaning) → Going w P a b → (r : Result A Refused)
-    → StageEnds w P b c r → StageEnds w P a c r
-ends_after c g (Ok x) s = (may_then g.may s.0, goes_then g.goes s.1, tt)
-ends_after {A} {w} {P} {a} {b} c g (Err e) s =
-    (may_then g.may s.0, record { why = s.1.why; fault = names_as (OnMember b) (OnMember a) (member_same g.may) e.fault s.1.fault })
+-- an operation of fewer is one of more
+pub member_as : {does more : Operation → Bool} → ((o : Operation) → does o ≡ true → more o ≡ true) → (a : Meaning) (f : Fault) → OnMember does a f → OnMember more a f
+member_as wider a f n = record { operation = wider f.operation n.operation; there = n.there; sector = n.sector; row = n.row }
+
+-- what only writes reads and writes
+pub writes_too : (o : Operation) → only_writes o ≡ true → reads_and_writes o ≡ true
+writes_too Restart w = w
+writes_too Read w = refl
+writes_too Write w = refl
+writes_too Flush w = refl
+
+pub ends_after : {A : Type 0} {w : Crew} (does : Operation → Bool) {P : ℕ → ℕ → List ℕ → Type 0} {a b : Meaning} (c : Meaning) → Going w P a b
+    → (r : Result A Refused) → StageEnds w does P b c r → StageEnds w does P a c r
+ends_after does c g (Ok x) s = (may_then g.may s.0, goes_then g.goes s.1, tt)
+ends_after {A} {w} does {P} {a} {b} c g (Err e) s =
+    (may_then g.may s.0, record { why = s.1.why; fault = names_as (OnMember does b) (OnMember does a) (member_same g.may) e.fault s.1.fault })
 
 -- the same of a call that was met
-pub met_ends : (w : Crew) (P Q : ℕ → ℕ → List ℕ → Type 0) (F : Fault → Type 0) (a b : Meaning) → ((k s : ℕ) (x : List ℕ) → Q k s x → P k s x)
-    → ((f : Fault) → F f → OnMember a f) → (e : Refused) → May Q a b × Met w F b e → May P a b × Met w (OnMember a) b e
-met_ends w P Q F a b wider names e s = (may_wider wider s.0, record { why = s.1.why; fault = names_as F (OnMember a) names e.fault s.1.fault })
+pub met_ends : (w : Crew) (does : Operation → Bool) (P Q : ℕ → ℕ → List ℕ → Type 0) (F : Fault → Type 0) (a b : Meaning)
+    → ((k s : ℕ) (x : List ℕ) → Q k s x → P k s x) → ((f : Fault) → F f → OnMember does a f) → (e : Refused) → May Q a b × Met w F b e
+    → May P a b × Met w (OnMember does a) b e
+met_ends w does P Q F a b wider names e s =
+    (may_wider wider s.0, record { why = s.1.why; fault = names_as F (OnMember does a) names e.fault s.1.fault })
 
-pub met_after : {w : Crew} {P : ℕ → ℕ → List ℕ → Type 0} {a b : Meaning} (c : Meaning) → Going w P a b → (e : Refused) → May P b c × Met w (OnMember b) c e
-    → May P a c × Met w (OnMember a) c e
-met_after {w} {P} {a} {b} c g e s =
-    (may_then g.may s.0, record { why = s.1.why; fault = names_as (OnMember b) (OnMember a) (member_same g.may) e.fault s.1.fault })
+pub met_after : {w : Crew} {does : Operation → Bool} {P : ℕ → ℕ → List ℕ → Type 0} {a b : Meaning} (c : Meaning) → Going w P a b → (e : Refused)
+    → May P b c × Met w (OnMember does b) c e → May P a c × Met w (OnMember does a) c e
+met_after {w} {does} {P} {a} {b} c g e s =
+    (may_then g.may s.0, record { why = s.1.why; fault = names_as (OnMember does b) (OnMember does a) (member_same g.may) e.fault s.1.fault })
 
 pub going_then : {w : Crew} {P : ℕ → ℕ → List ℕ → Type 0} {a b c : Meaning} → Going w P a b → May P b c → GoesOn w b c → Going w P a c
 going_then g m go = record { may = may_then g.may m; goes = goes_then g.goes go }
 
-pub on_cell : (op : Operation) → of_member op ≡ true → (a : Meaning) (m t : ℕ) (f : Fault) → OnCell op a m t f → OnMember a f
-on_cell op o a m t f n = record { operation = subst (λ p. of_member p ≡ true) (sym n.operation) o; there = n.there; row = n.row }
+-- A fault of one operation on one sector of a member that was there, whatever else is known of it.
+one_of : {does : Operation → Bool} (op : Operation) → does op ≡ true → (a : Meaning) (t : ℕ) (f : Fault) → f.operation ≡ op → f.sector ≡ t → NamesSector op t a
+    → a.present f.member ≡ true → f.row ≡ None → OnMember does a f
+one_of {does} op o a t f is at inside there row = record {
+  operation = subst (λ p. does p ≡ true) (sym is) o;
+  there = there;
+  sector = subst (λ p. NamesSector p f.sector a) (sym is) (subst (λ s. NamesSector op s a) (sym at) inside);
+  row = row;
+}
 
-pub on_sector : (op : Operation) → of_member op ≡ true → (a : Meaning) (t : ℕ) (f : Fault) → OnSector op a t f → OnMember a f
-on_sector op o a t f n = record { operation = subst (λ p. of_member p ≡ true) (sym n.operation) o; there = n.there; row = n.row }
+pub on_cell : {does : Operation → Bool} (op : Operation) → does op ≡ true → (a : Meaning) (m t : ℕ) (f : Fault) → OnCell op a m t f → OnMember does a f
+on_cell op o a m t f n = one_of op o a t f n.operation n.sector n.inside n.there n.row
 
-pub on_body : (op : Operation) → of_member op ≡ true → (backup : ℕ) (a : Meaning) (f : Fault) → OnBody op backup a f → OnMember a f
-on_body op o backup a f n = record { operation = subst (λ p. of_member p ≡ true) (sym n.operation) o; there = n.there; row = n.row }
+pub on_sector : {does : Operation → Bool} (op : Operation) → does op ≡ true → (a : Meaning) (t : ℕ) (f : Fault) → OnSector op a t f → OnMember does a f
+on_sector op o a t f n = one_of op o a t f n.operation n.sector n.inside n.there n.row
 
-pub on_home : (op : Operation) → of_member op ≡ true → (backup i : ℕ) (a : Meaning) (f : Fault) → OnHome op backup i a f → OnMember a f
+pub on_body : {does : Operation → Bool} (op : Operation) → does op ≡ true → (backup : ℕ) (a : Meaning) (f : Fault) → OnBody op backup a f → OnMember does a f
+on_body op o backup a f n = one_of op o a f.sector f n.operation refl n.inside n.there n.row
+
+pub on_home : {does : Operation → Bool} (op : Operation) → does op ≡ true → (backup i : ℕ) (a : Meaning) (f : Fault) → OnHome op backup i a f → OnMember does a f
 on_home op o backup i a f n = elim n [ inl p ↦ on_body op o backup a f p | inr p ↦ on_sector op o a _ f p ]
 
 -- plans

@@ -10,7 +10,7 @@ use Rattle.model.specs.Ends.{GoesOn, Met, Stage}
 use Rattle.model.specs.May.{May, nothing}
 use Rattle.stage.specs.Looks.{HasGroup, OnBody, OthersFolded}
 use Rattle.stage.proofs.Chains.{names_as}
-use Rattle.stage.proofs.Loops.{goes_then, was_present}
+use Rattle.stage.proofs.Loops.{goes_then, names_same, was_present}
 use Rattle.model.proofs.Mays.{may_then}
 
 -- a look that has come so far
@@ -27,7 +27,13 @@ abbrev pub FoldedSofar : Geometry → (backup x i n : ℕ) → (a b : Meaning) �
 FoldedSofar g backup x i n a b old new = HasGroup g backup x a → OthersFolded g backup x i n b old new
 
 pub body_same : (op : Operation) (backup : ℕ) {a b : Meaning} → May nothing a b → (f : Fault) → OnBody op backup b f → OnBody op backup a f
-body_same op backup m f n = record { operation = n.operation; there = was_present m f.member n.there; sector = n.sector; row = n.row }
+body_same op backup m f n = record {
+  operation = n.operation;
+  there = was_present m f.member n.there;
+  sector = n.sector;
+  inside = names_same op f.sector _ _ m.sectors n.inside;
+  row = n.row;
+}
 
 -- a look after another
 pub look_after : {A : Type 0} {w : Crew} (F G : Fault → Type 0) {a b c : Meaning} (D E : A → Type 0)

@@ -6,7 +6,7 @@ use Rattle.shelf.specs.Meaning.{OthersStay, Meaning, Sets, Persists, AnswerTells
 use Rattle.shelf.specs.Answers.{Answer}
 use Rattle.shelf.specs.declared.Failure.TheVariants.{Absent, Off, OutOfRange}
 use Rattle.model.specs.May.{May}
-use Rattle.stage.specs.Cells.{Left, Puts, PutAt}
+use Rattle.stage.specs.Cells.{Inside, Left, Puts, PutAt}
 use Rattle.model.proofs.Mays.{may_refl}
 
 -- a member that is there afterwards was there, so all are as they were
@@ -50,13 +50,19 @@ set_or_same (Err Off) c old new e = e
 set_or_same (Err OutOfRange) c old new e = inl e
 
 put_by : (r : Answer) (m t : ℕ) (c : List ℕ) (a b : Meaning) → AnswerTells r m b → Sets r c (a.current m t) (b.current m t) → Puts r m t c a b
-put_by (Ok x) m t c a b tells sets = λ below. sets
+put_by (Ok x) m t c a b tells sets = sets
 put_by (Err Absent) m t c a b tells sets = tt
 put_by (Err Off) m t c a b tells sets = tt
 put_by (Err OutOfRange) m t c a b tells sets = absurd tells
 
-put_in : (m t : ℕ) (c : List ℕ) (a b : Meaning) (r : Answer) → WriteIn m t c a b r → PutAt m t c a b r
-put_in m t c a b r w = record {
+inside_by : (r : Answer) (t : ℕ) (a : Meaning) → t < a.sectors → Inside r t a
+inside_by (Ok x) t a lt = lt
+inside_by (Err Absent) t a lt = lt
+inside_by (Err Off) t a lt = lt
+inside_by (Err OutOfRange) t a lt = tt
+
+put_in : (m t : ℕ) (c : List ℕ) (a b : Meaning) (r : Answer) → t < a.sectors → WriteIn m t c a b r → PutAt m t c a b r
+put_in m t c a b r lt w = record {
   may = may_by m a b w.others w.persists (λ k s. elim (cases_eq k m) [
     | inr ne ↦ inl (w.elsewhere k s (λ e. ne e.0))
     | inl e ↦ elim (cases_eq s t) [
@@ -69,13 +75,14 @@ put_in m t c a b r w = record {
   ]);
   others = w.others.others;
   left = left_by r m a b w.others w.tells;
+  inside = inside_by r t a lt;
   put = put_by r m t c a b w.tells w.sets;
 }
 
 put_out : (m t : ℕ) (c : List ℕ) (a b : Meaning) (r : Answer) → ((a.present m ≡ true) × (t < a.sectors) → ⊥) → (r ≡ (Err OutOfRange)) × (b ≡ a) → PutAt m t c a b r
 put_out m t c a b r outside e =
     subst (λ (x : Meaning). PutAt m t c a x r) (sym e.1) (subst (λ x. PutAt m t c a a x) (sym e.0)
-    (record { may = may_refl a; others = λ k ne. refl; left = (refl, refl); put = outside }))
+    (record { may = may_refl a; others = λ k ne. refl; left = (refl, refl); inside = tt; put = outside }))
 
 pub put_at : (m t : ℕ) (c : List ℕ) (a b : Meaning) (r : Answer) → length c ≡ 512 → (a.present m ≡ true → m < a.members)
     → Writes m t c a b r → PutAt m t c a b r
@@ -84,6 +91,6 @@ put_at m t c a b r long inside w =
       | inr out ↦ put_out m t c a b r (λ h. (let lt = inside h.0 in omega (arith, lt, out))) (w.outside (λ h. (let lt = h.member_below in omega (arith, lt, out))))
       | inl lt ↦ elim (cases_lt t a.sectors) [
         | inr out ↦ put_out m t c a b r (λ h. (let lt = h.1 in omega (arith, lt, out))) (w.outside (λ h. (let lt = h.sector_below in omega (arith, lt, out))))
-        | inl lt2 ↦ put_in m t c a b r (w.inside (record { member_below = lt; sector_below = lt2; long = long }))
+        | inl lt2 ↦ put_in m t c a b r lt2 (w.inside (record { member_below = lt; sector_below = lt2; long = long }))
       ]
     ]

@@ -20,14 +20,19 @@ Others m a b = (k : ℕ) → (k ≢ m) → b.present k ≡ a.present k
 abbrev pub HasCell : Meaning → ℕ → ℕ → Type 0
 HasCell a m t = (a.present m ≡ true) × (t < a.sectors)
 
+-- Sector t is one that the shelf has, unless the answer is that the operation was out of range.
+abbrev pub Inside : Answer → ℕ → Meaning → Type 0
+Inside (Err OutOfRange) t a = Unit {0}
+Inside r t a = t < a.sectors
+
 abbrev pub Puts : Answer → ℕ → ℕ → List ℕ → Meaning → Meaning → Type 0
-Puts (Ok x) m t c a b = t < a.sectors → b.current m t ≡ c
+Puts (Ok x) m t c a b = b.current m t ≡ c
 Puts (Err Absent) m t c a b = Unit {0}
 Puts (Err Off) m t c a b = Unit {0}
 Puts (Err OutOfRange) m t c a b = HasCell a m t → ⊥
 
 abbrev pub Gets : Answer → ℕ → ℕ → List ℕ → List ℕ → Meaning → Meaning → Type 0
-Gets (Ok x) m t old new a b = (t < a.sectors) × (new ≡ b.current m t)
+Gets (Ok x) m t old new a b = new ≡ b.current m t
 Gets (Err Absent) m t old new a b = new ≡ old
 Gets (Err Off) m t old new a b = new ≡ old
 Gets (Err OutOfRange) m t old new a b = (new ≡ old) × (HasCell a m t → ⊥)
@@ -42,12 +47,14 @@ pub record PutAt (m t : ℕ) (c : List ℕ) (a b : Meaning) (r : Answer) : Type 
   pub may : May (AtCell m t c) a b
   pub others : Others m a b
   pub left : Left r m a b
+  pub inside : Inside r t a
   pub put : Puts r m t c a b
 
 pub record GotAt (m t : ℕ) (old new : List ℕ) (a b : Meaning) (r : Answer) : Type 0 where
   pub may : May nothing a b
   pub others : Others m a b
   pub left : Left r m a b
+  pub inside : Inside r t a
   pub got : Gets r m t old new a b
 
 pub record FlushedBy (m : ℕ) (a b : Meaning) (r : Answer) : Type 0 where

@@ -2,9 +2,9 @@ use Rattle.std.proofs.Common.{◌+◌}
 use Rattle.model.specs.May.{From, nothing}
 use Rattle.model.proofs.Mays.{from_one, may_then, quiet}
 use Rattle.stage.specs.Arrays.{crew_of}
-use Rattle.stage.specs.Endings.{StageEnds, OnMember}
+use Rattle.stage.specs.Endings.{StageEnds, reads_and_writes}
 use Rattle.stage.proofs.Chains.{handed_on, stage_may}
-use Rattle.stage.proofs.Endings.{Going, ends_after, met_ends, no_plan, stage_ends}
+use Rattle.stage.proofs.Endings.{Going, ends_after, member_as, met_ends, no_plan, stage_ends, writes_too}
 use Rattle.stage.proofs.array.Array.place_sector.Goals as goal
 
 pub returns-in_err-content-clause-may : goal.returns-in_err-content-clause-may
@@ -17,8 +17,8 @@ returns-in_err-content-clause-ends g c = λ has.
     let a = g.S.Shelf.meaning c.args.shelf.now in
     let P = From (3 + v.head.backup) in
     let d = g.S.Shelf.meaning c.content_ahead.new.shelf in
-    handed_on (λ r. StageEnds w P a d r) c.from_residual.result _ c.from_residual.ensures.1
-    (met_ends w P nothing (OnMember a) a d (no_plan P) (λ f n. n) _ (c.in_err-content.ensures.ends has))
+    handed_on (λ r. StageEnds w reads_and_writes P a d r) c.from_residual.result _ c.from_residual.ensures.1
+    (met_ends w reads_and_writes P nothing _ a d (no_plan P) (λ f n. n) _ (c.in_err-content.ensures.ends has))
 
 pub returns-clause-may : goal.returns-clause-may
 returns-clause-may g c = may_then (quiet c.content_ahead.ensures.may) (from_one (stage_may _ _ _ c.write_copies.result c.write_copies.ensures))
@@ -33,4 +33,4 @@ returns-clause-ends g c = λ has.
     let d = g.S.Shelf.meaning c.write_copies.new.shelf in
     let s = c.in_ok-content.ensures.ends has in
     let so : Going w P a b = record { may = quiet s.0; goes = s.1 } in
-    ends_after d so c.write_copies.result (stage_ends w P _ (OnMember b) b d _ (λ k n x p. record { sector = p.sector }) (λ f n. n) c.write_copies.result c.write_copies.ensures)
+    ends_after reads_and_writes d so c.write_copies.result (stage_ends w reads_and_writes P _ _ b d _ (λ k n x p. record { sector = p.sector }) (member_as writes_too b) c.write_copies.result c.write_copies.ensures)

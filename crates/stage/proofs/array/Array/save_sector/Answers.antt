@@ -3,7 +3,7 @@ use Rattle.answer.specs.declared.Operation.TheVariants.{Read, Write}
 use Rattle.model.specs.May.{InSlots, nothing}
 use Rattle.model.proofs.Mays.{may_then, may_wider, quiet}
 use Rattle.stage.specs.Arrays.{crew_of}
-use Rattle.stage.specs.Endings.{StageEnds}
+use Rattle.stage.specs.Endings.{StageEnds, reads_and_writes}
 use Rattle.stage.proofs.Chains.{handed_on, stage_may}
 use Rattle.stage.proofs.Endings.{Going, ends_after, met_ends, no_plan, on_home, on_sector, slots, stage_ends}
 use Rattle.stage.proofs.array.Array.save_sector.Goals as goal
@@ -15,8 +15,8 @@ returns-in_err-content-clause-ends g c = λ has.
     let a = g.S.Shelf.meaning c.args.shelf.now in
     let P = InSlots v.head.backup in
     let d = g.S.Shelf.meaning c.show.new.shelf in
-    handed_on (λ r. StageEnds w P a d r) c.from_residual.result _ c.from_residual.ensures.1
-    (met_ends w P nothing _ a d (no_plan P) (on_home Read refl v.head.backup c.args.sector a) _ (c.in_err-content.ensures.shows has))
+    handed_on (λ r. StageEnds w reads_and_writes P a d r) c.from_residual.result _ c.from_residual.ensures.1
+    (met_ends w reads_and_writes P nothing _ a d (no_plan P) (on_home Read refl v.head.backup c.args.sector a) _ (c.in_err-content.ensures.shows has))
 
 pub returns-clause-may : goal.returns-clause-may
 returns-clause-may g c =
@@ -34,4 +34,4 @@ returns-clause-ends g c = λ has.
     let slot : c.args.sector % c.args.self.now.head.backup < c.args.self.now.head.backup = omega arith in
     let s = c.in_ok-content.ensures.shows has in
     let so : Going w P a b = record { may = quiet s.0; goes = s.1 } in
-    ends_after d so c.write_slot.result (stage_ends w P _ _ b d _ (λ k n x p. slots c.args.self.now.head.backup _ _ k n x slot p) (on_sector Write refl b (3 + c.args.sector % c.args.self.now.head.backup)) c.write_slot.result c.write_slot.ensures)
+    ends_after reads_and_writes d so c.write_slot.result (stage_ends w reads_and_writes P _ _ b d _ (λ k n x p. slots c.args.self.now.head.backup _ _ k n x slot p) (on_sector Write refl b (3 + c.args.sector % c.args.self.now.head.backup)) c.write_slot.result c.write_slot.ensures)

@@ -1,7 +1,7 @@
 use Rattle.std.proofs.Common.{◌+◌}
 use Rattle.model.specs.May.{OneFrom}
 use Rattle.stage.specs.Arrays.{crew_of}
-use Rattle.stage.specs.Endings.{StageEnds}
+use Rattle.stage.specs.Endings.{StageEnds, only_writes}
 use Rattle.stage.proofs.Chains.{handed_on}
 use Rattle.stage.proofs.Endings.{met_after}
 use Rattle.stage.proofs.array.Array.write_copies.Goals as goal
@@ -11,5 +11,5 @@ returns-in_err-write_place g c =
     let w = crew_of g.L.Layout.geometry c.args.self.now in
     let P = OneFrom (3 + c.args.self.now.head.backup) c.args.datum.now in
     let d = g.S.Shelf.meaning c.write_place.new.shelf in
-    handed_on (λ r. StageEnds w P (g.S.Shelf.meaning c.args.shelf.now) d r) c.from_residual.result _ c.from_residual.ensures.1
+    handed_on (λ r. StageEnds w only_writes P (g.S.Shelf.meaning c.args.shelf.now) d r) c.from_residual.result _ c.from_residual.ensures.1
     (met_after d c.loop-copy.invariant _ c.in_err-write_place.ensures)

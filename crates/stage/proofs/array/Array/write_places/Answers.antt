@@ -1,7 +1,7 @@
 use Rattle.std.proofs.Common.{◌+◌, inl, inr}
 use Rattle.model.specs.May.{EitherPlan, OneFrom}
 use Rattle.stage.specs.Arrays.{crew_of}
-use Rattle.stage.specs.Endings.{StageEnds}
+use Rattle.stage.specs.Endings.{StageEnds, only_writes}
 use Rattle.stage.proofs.Chains.{handed_on}
 use Rattle.model.proofs.Mays.{may_wider}
 use Rattle.stage.proofs.Endings.{Going, ends_after, met_ends, stage_ends}
@@ -14,8 +14,8 @@ returns-in_err-write_copies g c =
     let P = EitherPlan (OneFrom first c.args.entry.datum.now) (OneFrom first c.args.entry.parity.now) in
     let a = g.S.Shelf.meaning c.args.shelf.now in
     let d = g.S.Shelf.meaning c.write_copies.new.shelf in
-    handed_on (λ r. StageEnds w P a d r) c.from_residual.result _ c.from_residual.ensures.1
-    (met_ends w P _ _ a d (λ k s x p. inl p) (λ f n. n) _ c.in_err-write_copies.ensures)
+    handed_on (λ r. StageEnds w only_writes P a d r) c.from_residual.result _ c.from_residual.ensures.1
+    (met_ends w only_writes P _ _ a d (λ k s x p. inl p) (λ f n. n) _ c.in_err-write_copies.ensures)
 
 pub returns-in-Some : goal.returns-in-Some
 returns-in-Some g c =
@@ -27,7 +27,7 @@ returns-in-Some g c =
     let d = g.S.Shelf.meaning c.write_place.new.shelf in
     let s = c.in_ok-write_copies.ensures in
     let so : Going w P a b = record { may = may_wider (λ k t x p. inl p) s.0; goes = s.1 } in
-    ends_after d so c.write_place.result (stage_ends w P _ _ b d _ (λ k t x p. inr p) (λ f n. n) c.write_place.result c.write_place.ensures)
+    ends_after only_writes d so c.write_place.result (stage_ends w only_writes P _ _ b d _ (λ k t x p. inr p) (λ f n. n) c.write_place.result c.write_place.ensures)
 
 pub returns-in-None : goal.returns-in-None
 returns-in-None g c =
