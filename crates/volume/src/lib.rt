@@ -6,7 +6,7 @@ ghost use Rattle.std.specs.Prelude.{◌≡◌, ◌+◌, ◌*◌, ◌<◌, ◌≤
 ghost use Rattle.head.specs.declared.TheConstants.{MOST_NUMBER};
 ghost use Rattle.head.specs.Heads.{kept_rows, settled_rows};
 ghost use Rattle.head.specs.declared.state.Progress.TheVariants.{Moving as UnderWay};
-ghost use Rattle.model.specs.Handed.Handed.{Counts, Distance, Nothing, Row};
+ghost use Rattle.model.specs.Handed.Handed.{Buffer, Counts, Distance, Nothing, Row};
 ghost use Rattle.model.specs.declared.request.Request.TheVariants.{Begin, Copy, Finish, HandBack, Keep, Read, Settle, Write};
 ghost use Rattle.model.specs.declared.phase.Phase.TheVariants.{Before};
 ghost use Rattle.model.specs.May.{From, May, nothing};
@@ -149,7 +149,7 @@ impl<S: Shelf, L: Layout> Volume<S, L> {
     // Reads a sector; where it is refused the buffer stays as it was.
     pub fn read(&mut self, sector: u64, buffer: &mut [u8]) -> Result<(), Refused>
         ensures verdict { RefusedBy (read_verdict (known L.geometry self.old) (S.meaning (shelf_of self.old)) sector (length buffer.old)) (self.new ≡ self.old) result }
-        ensures ends { Housed (known L.geometry self.old) (S.meaning (shelf_of self.old)) → CallEnds S.meaning L.geometry L.named (read_verdict (known L.geometry self.old) (S.meaning (shelf_of self.old)) sector (length buffer.old)) (λ u. Nothing) (Read sector) (self.new ≡ self.old) self.old self.new result }
+        ensures ends { Housed (known L.geometry self.old) (S.meaning (shelf_of self.old)) → CallEnds S.meaning L.geometry L.named (read_verdict (known L.geometry self.old) (S.meaning (shelf_of self.old)) sector (length buffer.old)) (λ u. Buffer buffer.new) (Read sector) (self.new ≡ self.old) self.old self.new result }
         ensures housed { StaysHoused S.meaning L.geometry self.old self.new }
         ensures buffer { OnErr result (buffer.new ≡ buffer.old) }
         ensures writes { May nothing (S.meaning (shelf_of self.old)) (S.meaning (shelf_of self.new)) }
