@@ -1,5 +1,5 @@
 -- What clauses read of a volume.
-use Rattle.std.specs.Prelude.{◌≡◌, ℕ, ◌<◌, ◌≤◌, [], Some, None, Ok, Err, OnOk, Option, Result}
+use Rattle.std.specs.Prelude.{◌≡◌, ℕ, ◌<◌, ◌≤◌, ◌⊎◌, [], Some, None, Ok, Err, OnOk, Option, Result}
 use Rattle.answer.specs.Faults.{in_row}
 use Rattle.answer.specs.declared.Refusal.{Refusal}
 use Rattle.answer.specs.declared.Refused.{Refused}
@@ -10,8 +10,9 @@ use Rattle.layout.specs.Geometry.{Geometry, capacity}
 use Rattle.layout.specs.declared.label.Label.{Label}
 use Rattle.overlap.specs.Needs.{distance_of}
 use Rattle.shelf.specs.Meaning.{Meaning}
-use Rattle.model.specs.Answers.{Ended, HeadLeft}
-use Rattle.model.specs.Effects.{HeadAfter, Rearmed, known_after}
+use Rattle.model.specs.Answers.{CreateMet, Ended, HeadLeft, TurnedAway}
+use Rattle.model.specs.Crew.{crew}
+use Rattle.model.specs.Effects.{First, HeadAfter, Rearmed, known_after}
 use Rattle.model.specs.Ends.{GoesOn, Met}
 use Rattle.model.specs.Handed.{Handed}
 use Rattle.model.specs.Knowing.{Volume as Known}
@@ -138,3 +139,21 @@ KeepEnds mean place name v w (Ok x) =
     HeadAfter Keep (known place v) (name v.array.target) v.array.head w.array.head × (known place w ≡ known_after Keep (known place v) w.array.head) × StaysOn mean place v w
 KeepEnds mean place name v w (Err e) =
     (w.array.head ≡ v.array.head) × Met (crew_of place v.array) (OnMember reads_and_writes (mean v.shelf)) (mean w.shelf) e × (known place w ≡ known place v)
+
+-- nothing has changed but the shelf, the phase and the head
+pub record SameLayouts {S L : Type 0} (v w : Volume S L) : Type 0 where
+  pub source : w.array.source ≡ v.array.source
+  pub target : w.array.target ≡ v.array.target
+  pub hand : w.hand ≡ v.hand
+
+-- a volume with no move and its first head
+pub record Founded {S L : Type 0} (mean : S → Meaning) (place : L → Geometry) (label : Label) (size backup : ℕ) (v w : Volume S L) : Type 0 where
+  pub goes : GoesOn (crew Before (place v.array.source) (place v.array.target)) (mean v.shelf) (mean w.shelf)
+  pub first : First label size backup w.array.head
+  pub phase : w.array.phase ≡ Before
+
+-- How a volume was laid out on v's shelf, by its verdict, both ways.
+abbrev pub LaidOut : {S L : Type 0} → (S → Meaning) → (L → Geometry) → (L → Label) → Option Refusal → (size backup : ℕ) → (v w : Volume S L) → Result Unit Refused → Type 0
+LaidOut mean place name verdict size backup v w (Ok x) = (verdict ≡ None) × Founded mean place (name v.array.source) size backup v w
+LaidOut mean place name verdict size backup v w (Err e) =
+    TurnedAway verdict (w ≡ v) e ⊎ CreateMet verdict (place v.array.source) (place v.array.target) (mean v.shelf) (mean w.shelf) e
