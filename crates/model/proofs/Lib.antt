@@ -2,6 +2,7 @@ pub mod Carrying
 pub mod Mays
 pub mod Readable
 pub mod Runs
+pub mod Seeing
 pub mod WorkedAnswers
 pub mod WorkedCalls
 mod WorkedRuns
