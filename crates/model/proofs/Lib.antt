@@ -4,4 +4,5 @@ pub mod Runs
 pub mod Seeing
 pub mod WorkedAnswers
 pub mod WorkedCalls
+mod WorkedRuns
 pub mod Working

@@ -1,5 +1,5 @@
 -- Enough members have every sector. This is all that anything above takes from the count of absent members.
-use Rattle.std.proofs.Common.{◌≡◌, ℕ, zero, suc, ◌+◌, ◌<◌, ◌≤◌, ◌≢◌, Bool, true, false, not, cond, min, eqb, leb, ◌⊎◌, refl, sym, ap, ◌∙◌, subst, inl, inr, arith}
+use Rattle.std.proofs.Common.{◌≡◌, ℕ, zero, suc, ◌+◌, ◌<◌, ◌≤◌, ◌≢◌, Bool, true, false, not, cond, min, eqb, refl, sym, ap, ◌∙◌, subst, inl, inr, arith}
 use Rattle.std.proofs.lemmas.Bool.{cond-true, cond-false, both_ways, cases_Bool, cases_eq, cases_lt, eq-eqb, ne_eqb, leb-true}
 use Rattle.layout.specs.Geometry.{Geometry, capacity}
 use Rattle.layout.specs.Lawful.{Lawful}
@@ -7,7 +7,7 @@ use Rattle.layout.specs.declared.place.Owner.TheVariants.{Datum, Parity}
 use Rattle.shelf.specs.Meaning.{Meaning}
 use Rattle.model.specs.Contents.{some}
 use Rattle.model.specs.Crew.{absent, borne, count}
-use Rattle.model.specs.Readable.{GroupGives, InUse, Readable, some_copy}
+use Rattle.model.specs.Readable.{GroupGives, Readable, some_copy}
 
 -- member m counts as there
 abbrev with : ℕ → (ℕ → Bool) → ℕ → Bool

@@ -24,10 +24,8 @@ still_enough (Shut why) s t f a e = e
 
 pub passed : (w : Crew) (f : Step) (a : Meaning) → Passed w f a (passed_by f a)
 passed w f a = record {
-  members = refl;
-  sectors = refl;
+  may = record { members = refl; sectors = refl; off_stays = λ e. e; absent_stays = λ k e. e; current = λ k s. inr refl; durable = λ k s. inr (inr refl) };
   goes = record { on = λ e. e; enough = still_enough w.phase w.source w.target f a };
-  were = λ k e. e;
   current = λ k s here lt. refl;
   durable = λ k s here. refl;
 }
@@ -57,7 +55,7 @@ went_dark f a = record { members = refl; sectors = refl; off_stays = λ e. refl;
 pub seen : (w : Crew) (a b : Meaning) (f : Meaning → List ℕ) → ((k : ℕ) → b.present k ≡ true → a.present k ≡ true) → enough w a ≡ true → SeenBy w a b f (f a)
 seen w a b f left e = record { there = a.present; between = record { left = left; were = λ k here. here }; enough = e; is = refl }
 
--- a restart of a durable shelf changes nothing
+-- a restart of a shelf on which all is durable changes nothing
 pub restarted : (a : Meaning) → true ≡ a.on → ((k s : ℕ) → a.durable k s ≡ a.current k s) → Restarts a a true
 restarted a on both = record {
   members = refl;

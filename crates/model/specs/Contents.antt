@@ -1,5 +1,7 @@
 -- What a shelf shows of a sector: each present copy in its home, and without one what the rest of its group makes it.
 use Rattle.std.specs.Prelude.{ℕ, zero, suc, ◌+◌, ◌%◌, Bool, true, false, cond, not, ◌&&◌, ◌||◌, List, [], replicate, ◌==◌, nat_eq, nat_lt}
+use Rattle.head.specs.declared.TheConstants.{SLOTS_AT}
+use Rattle.sector.specs.declared.TheConstants.{SECTOR}
 use Rattle.std.specs.Str.{bytes_eq}
 use Rattle.sector.specs.Folds.{folded}
 use Rattle.layout.specs.Geometry.{Geometry, capacity}
@@ -17,12 +19,12 @@ some f (suc n) = cond (some f n) true (f n)
 
 -- the first n contents folded into one, those left out that are skipped
 abbrev pub gathered : (ℕ → Bool) → (ℕ → List ℕ) → ℕ → List ℕ
-gathered skip f zero = replicate 512 0
+gathered skip f zero = replicate SECTOR 0
 gathered skip f (suc n) = cond (skip n) (gathered skip f n) (folded (gathered skip f n) (f n))
 
 -- the sectors of a volume of this size, and zeros from there on
 abbrev pub padded : ℕ → (ℕ → List ℕ) → ℕ → List ℕ
-padded size c i = cond (nat_lt i size) (c i) (replicate 512 0)
+padded size c i = cond (nat_lt i size) (c i) (replicate SECTOR 0)
 
 -- what a member holds; nothing past its end
 abbrev pub held : Meaning → ℕ → ℕ → List ℕ
@@ -30,7 +32,7 @@ held a k s = cond (nat_lt k a.members && nat_lt s a.sectors) (a.current k s) []
 
 -- where on the shelf a place of the body lies, after the head, the log and the backup slots
 abbrev pub on_shelf : ℕ → ℕ × ℕ → ℕ × ℕ
-on_shelf backup p = (p.0, 3 + backup + p.1)
+on_shelf backup p = (p.0, SLOTS_AT + backup + p.1)
 
 -- what lies there
 abbrev pub at : Meaning → ℕ → ℕ × ℕ → List ℕ
@@ -72,7 +74,7 @@ layout_shows_other g a backup x i = cond (nat_lt i (capacity g)) (copies_differ 
 
 -- in the backup slots: some member that is there differs, or none is there
 abbrev pub slot_shows_other : Meaning → ℕ → List ℕ → ℕ → Bool
-slot_shows_other a backup x i = cond (some a.present a.members) (some (λ k. held_other a x k (3 + i % backup)) a.members) true
+slot_shows_other a backup x i = cond (some a.present a.members) (some (λ k. held_other a x k (SLOTS_AT + i % backup)) a.members) true
 
 -- where sector i lives in a phase
 abbrev pub home_in : Phase → (source target : Geometry) → (p q : ℕ) → ℕ → Home

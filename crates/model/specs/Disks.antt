@@ -1,5 +1,6 @@
 -- The flat disk: what a volume shows, and what each call makes of it.
 use Rattle.std.specs.Prelude.{◌≡◌, ℕ, ◌+◌, ◌<◌, cond, List, [], ◌∷◌, ◌++◌, length, replicate, Some, None, Option, ◌==◌, slice_index_or}
+use Rattle.sector.specs.declared.TheConstants.{SECTOR}
 use Rattle.model.specs.declared.phase.Phase.{Phase}
 use Rattle.model.specs.declared.phase.Phase.TheVariants.{Before, Moving, After}
 use Rattle.model.specs.declared.request.Request.{Request}
@@ -40,7 +41,7 @@ pub record SameDisk (d e : Disk) : Type 0 where
 
 -- a volume that was just created
 abbrev pub created : ℕ → Disk
-created size = record { size = size; content = λ i. replicate 512 0; phase = Before; settled = 0; kept = 0; hand = None }
+created size = record { size = size; content = λ i. replicate SECTOR 0; phase = Before; settled = 0; kept = 0; hand = None }
 
 abbrev pub with_walk : Disk → Phase → (p q : ℕ) → Option ℕ → Disk
 with_walk d phase p q hand = record { size = d.size; content = d.content; phase = phase; settled = p; kept = q; hand = hand }

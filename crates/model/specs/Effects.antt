@@ -1,5 +1,6 @@
 -- What each call makes of its shelf, done or met: its steps, one after another, and the head after it.
 use Rattle.std.specs.Prelude.{◌≡◌, ℕ, ◌+◌, ◌-◌, ◌<◌, ◌⊎◌, List, [], ◌∷◌, Some, None, Option}
+use Rattle.sector.specs.declared.TheConstants.{SECTOR}
 use Rattle.answer.specs.declared.Refusal.{Refusal}
 use Rattle.layout.specs.Geometry.{Geometry}
 use Rattle.layout.specs.declared.label.Label.{Label}
@@ -101,8 +102,8 @@ MetBy r v l h a b = May nothing a b ⊎ MetInStep r v l h a b
 
 -- What each call answers before its first operation, with a buffer of one sector; l is the target's label. (Open has its own.)
 abbrev pub verdict_of : Request → Volume → (l : Label) → Meaning → Option Refusal
-verdict_of (Read i) v l a = read_verdict v a i 512
-verdict_of (Write i x) v l a = write_verdict v a i 512
+verdict_of (Read i) v l a = read_verdict v a i SECTOR
+verdict_of (Write i x) v l a = write_verdict v a i SECTOR
 verdict_of Begin v l a = begin_verdict l v a
 verdict_of Keep v l a = keep_verdict v a
 verdict_of Copy v l a = copy_verdict v a

@@ -1,5 +1,6 @@
 -- The operations that a fault names.
 use Rattle.std.specs.Prelude.{◌≡◌, ℕ, ◌<◌, true, ◌⊎◌, None}
+use Rattle.head.specs.declared.TheConstants.{HEAD_AT}
 use Rattle.answer.specs.declared.Operation.{Operation}
 use Rattle.answer.specs.declared.Operation.TheVariants.{Read, Write, Flush}
 use Rattle.answer.specs.declared.Fault.{Fault}
@@ -35,4 +36,4 @@ Either F G f = F f ⊎ G f
 
 -- a head on its way to every member
 abbrev pub OnHeads : Meaning → Fault → Type 0
-OnHeads a = Either (OnSector Write a 0) (OnSector Flush a 0)
+OnHeads a = Either (OnSector Write a HEAD_AT) (OnSector Flush a 0)

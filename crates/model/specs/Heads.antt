@@ -1,5 +1,6 @@
 -- The heads that members hold, and the one that leads.
 use Rattle.std.specs.Prelude.{◌≡◌, ℕ, ◌<◌, ◌≤◌, true, Some, None, Ok, Err, Option, Result}
+use Rattle.head.specs.declared.TheConstants.{HEAD_AT}
 use Rattle.answer.specs.declared.Operation.TheVariants.{Read}
 use Rattle.answer.specs.declared.Refused.{Refused}
 use Rattle.head.specs.Heads.{Fits, head_bytes}
@@ -12,8 +13,8 @@ use Rattle.model.specs.May.{May, nothing}
 -- member k is there, and its first sector is the bytes of h
 pub record HoldsHead (b : Meaning) (k : ℕ) (h : Head) : Type 0 where
   pub there : b.present k ≡ true
-  pub some : 0 < b.sectors
-  pub bytes : b.current k 0 ≡ head_bytes h
+  pub some : HEAD_AT < b.sectors
+  pub bytes : b.current k HEAD_AT ≡ head_bytes h
   pub fits : Fits h
 
 -- h leads among the heads of the first n members: it has the highest number, and at a tie it is the lowest member's
@@ -41,9 +42,9 @@ pub record HeadsRead (a b : Meaning) : Type 0 where
 
 abbrev pub ReadHead : ℕ → Meaning → Meaning → Result (Option Head) Refused → Type 0
 ReadHead k a b (Ok found) = HeadsRead a b × HeadOf b k found
-ReadHead k a b (Err e) = May nothing a b × Cut b e × Names (OnCell Read a k 0) e.fault
+ReadHead k a b (Err e) = May nothing a b × Cut b e × Names (OnCell Read a k HEAD_AT) e.fault
 
 -- The search of all members for the head that leads.
 abbrev pub FoundHead : Meaning → Meaning → Result (Option Head) Refused → Type 0
 FoundHead a b (Ok found) = HeadsRead a b × LedBelow b b.members found
-FoundHead a b (Err e) = May nothing a b × Cut b e × Names (OnSector Read a 0) e.fault
+FoundHead a b (Err e) = May nothing a b × Cut b e × Names (OnSector Read a HEAD_AT) e.fault

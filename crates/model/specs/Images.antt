@@ -1,5 +1,7 @@
 -- Images: what stands in each sector of each member, and what the steps of calls make of it.
 use Rattle.std.specs.Prelude.{ℕ, zero, suc, ◌+◌, ◌-◌, ◌%◌, Bool, true, false, cond, ◌&&◌, List, [], replicate, ◌==◌, nat_le, nat_lt}
+use Rattle.head.specs.declared.TheConstants.{HEAD_AT, LOGGED_DATUM_AT, LOGGED_PARITY_AT, SLOTS_AT}
+use Rattle.sector.specs.declared.TheConstants.{SECTOR}
 use Rattle.layout.specs.Geometry.{Geometry}
 use Rattle.layout.specs.declared.place.Owner.{Owner}
 use Rattle.layout.specs.declared.place.Owner.TheVariants.{Datum, Parity, Nobody}
@@ -20,15 +22,15 @@ with_sector t x f k s = cond (s == t) x (f k s)
 -- the places of a layout, each by its owner and by what lay there; everything else stays
 abbrev pub with_places : Geometry → ℕ → (Owner → List ℕ → List ℕ) → Image → Image
 with_places g backup F f k s =
-    cond (nat_lt k g.members && (nat_le (3 + backup) s && nat_lt s (3 + backup + g.depth))) (F (g.owner (k, s - (3 + backup))) (f k s)) (f k s)
+    cond (nat_lt k g.members && (nat_le (SLOTS_AT + backup) s && nat_lt s (SLOTS_AT + backup + g.depth))) (F (g.owner (k, s - (SLOTS_AT + backup))) (f k s)) (f k s)
 
 -- a checkpoint: one head on every member
 abbrev pub headed : Head → Image → Image
-headed h f = with_sector 0 (head_bytes h) f
+headed h f = with_sector HEAD_AT (head_bytes h) f
 
 -- the log of a write
 abbrev pub logged : (datum parity : List ℕ) → Image → Image
-logged x y f = with_sector 2 y (with_sector 1 x f)
+logged x y f = with_sector LOGGED_PARITY_AT y (with_sector LOGGED_DATUM_AT x f)
 
 -- a write in a layout: every copy of sector i, and the parity of its group
 abbrev pub set : Geometry → ℕ → (datum parity : List ℕ) → Owner → List ℕ → List ℕ
@@ -40,12 +42,12 @@ set g i x y Nobody old = old
 abbrev pub applied : Home → (source target : Geometry) → (backup i : ℕ) → (datum parity : List ℕ) → Image → Image
 applied Source s t backup i x y f = with_places s backup (set s i x y) f
 applied Target s t backup i x y f = with_places t backup (set t i x y) f
-applied Backup s t backup i x y f = with_sector (3 + i % backup) x f
+applied Backup s t backup i x y f = with_sector (SLOTS_AT + i % backup) x f
 
 -- so many sectors from the first one on, each in its slot on every member
 abbrev pub saved : ℕ → (ℕ → List ℕ) → (from many : ℕ) → Image → Image
 saved backup c from zero f = f
-saved backup c from (suc n) f = with_sector (3 + (from + n) % backup) (c (from + n)) (saved backup c from n f)
+saved backup c from (suc n) f = with_sector (SLOTS_AT + (from + n) % backup) (c (from + n)) (saved backup c from n f)
 
 -- somebody owns the place
 abbrev pub is_used : Owner → Bool
@@ -63,7 +65,7 @@ abbrev pub fresh_row : Geometry → ℕ → (ℕ → List ℕ) → Owner → Lis
 fresh_row g row c o old = cond (is_used o && owner_row g o == row) (due_of g c o) old
 
 abbrev pub cleared : Owner → List ℕ → List ℕ
-cleared o old = cond (is_used o) (replicate 512 0) old
+cleared o old = cond (is_used o) (replicate SECTOR 0) old
 
 -- zeros in every place of the source that has an owner
 abbrev pub created_over : Geometry → ℕ → Image → Image

@@ -1,5 +1,6 @@
 -- What operations that write by a plan may make of a shelf.
 use Rattle.std.specs.Prelude.{◌≡◌, ℕ, ◌+◌, ◌<◌, ◌≤◌, false, ◌⊎◌, List}
+use Rattle.head.specs.declared.TheConstants.{SLOTS_AT}
 use Rattle.shelf.specs.Meaning.{Meaning}
 
 -- From a to b the shelf saw only operations that write contents that P allows at a member and a sector.
@@ -34,8 +35,8 @@ pub record OneFrom (first : ℕ) (c : List ℕ) (k s : ℕ) (x : List ℕ) : Typ
   pub content : x ≡ c
 
 pub record InSlots (backup : ℕ) (k s : ℕ) (x : List ℕ) : Type 0 where
-  pub sector : 3 ≤ s
-  pub slot : s < 3 + backup
+  pub sector : SLOTS_AT ≤ s
+  pub slot : s < SLOTS_AT + backup
 
 -- by one plan or by another
 abbrev pub EitherPlan : (P Q : ℕ → ℕ → List ℕ → Type 0) → ℕ → ℕ → List ℕ → Type 0

@@ -18,7 +18,7 @@ use Rattle.model.specs.Heads.{LedBelow, HeadsRead}
 use Rattle.model.specs.May.{May, nothing}
 use Rattle.model.specs.Knowing.{phase_by}
 use Rattle.model.specs.Verdicts.{first_refusal, fits}
-use Rattle.head.specs.declared.TheConstants.{MOST_NUMBER}
+use Rattle.head.specs.declared.TheConstants.{HEAD_AT, MOST_NUMBER}
 
 abbrev pub same_label : Label → Label → Bool
 same_label l k = (l.kind == k.kind && (l.members == k.members && l.copies == k.copies))
@@ -85,7 +85,7 @@ pub record GoesDark (a b : Meaning) (e : Refused) : Type 0 where
   pub restarts : Restarts a restarted true
   pub may : May nothing restarted b
   pub cut : Cut b e
-  pub fault : Names (OnSector Read restarted 0) e.fault
+  pub fault : Names (OnSector Read restarted HEAD_AT) e.fault
 
 -- a restart and a search for the head that leads
 abbrev pub Restarted : Meaning → Meaning → Result (Option Head) Refused → Type 0

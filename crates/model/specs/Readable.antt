@@ -1,5 +1,6 @@
 -- When the members that are there have every sector of a layout.
 use Rattle.std.specs.Prelude.{◌≡◌, ℕ, ◌+◌, ◌<◌, ◌≤◌, Bool, true, ◌⊎◌, ◌≢◌}
+use Rattle.head.specs.declared.TheConstants.{SLOTS_AT}
 use Rattle.layout.specs.Geometry.{Geometry, capacity}
 use Rattle.layout.specs.Lawful.{Lawful}
 use Rattle.shelf.specs.Meaning.{Meaning}
@@ -23,7 +24,7 @@ pub record Readable (g : Geometry) (there : ℕ → Bool) : Type 0 where
 -- a layout and the sectors before it have room
 pub record Room (members sectors backup : ℕ) (g : Geometry) : Type 0 where
   pub wide : g.members ≤ members
-  pub deep : 3 + backup + g.depth ≤ sectors
+  pub deep : SLOTS_AT + backup + g.depth ≤ sectors
 
 -- The layout is one of those in force, it has room on the shelf, and the members there are enough: so every sector of it can be had.
 pub record InUse (w : Crew) (g : Geometry) (backup : ℕ) (a : Meaning) : Type 0 where

@@ -1,5 +1,7 @@
 -- What a call reads of a shelf: a sector by its home, and the parity of a group.
 use Rattle.std.specs.Prelude.{ℕ, zero, suc, ◌+◌, ◌%◌, Bool, false, cond, List, replicate, ◌==◌, nat_lt}
+use Rattle.head.specs.declared.TheConstants.{SLOTS_AT}
+use Rattle.sector.specs.declared.TheConstants.{SECTOR}
 use Rattle.layout.specs.Geometry.{Geometry}
 use Rattle.overlap.specs.declared.walk.Home.{Home}
 use Rattle.overlap.specs.declared.walk.Home.TheVariants.{Source, Target, Backup}
@@ -24,7 +26,7 @@ common a s = held a (lowest a.present a.members) s
 abbrev pub content_at : Home → (source target : Geometry) → Meaning → (backup i : ℕ) → List ℕ
 content_at Source s t a backup i = laid s a backup i
 content_at Target s t a backup i = laid t a backup i
-content_at Backup s t a backup i = common a (3 + i % backup)
+content_at Backup s t a backup i = common a (SLOTS_AT + i % backup)
 
 abbrev pub home_by : Volume → ℕ → Home
 home_by v i = home_in v.crew.phase v.crew.source v.crew.target v.settled v.kept i
@@ -36,10 +38,10 @@ content_of v a i = content_at (home_by v i) v.crew.source v.crew.target a v.back
 -- The parity of sector i's group once it holds x: of what the layout's places give of the other peers, which need not be what the peers' homes give.
 abbrev pub parity_with : Geometry → Meaning → (backup i : ℕ) → List ℕ → List ℕ
 parity_with g a backup i x =
-    cond (nat_lt 0 g.groups) (gathered (λ b. false) (λ b. cond (g.peer (g.group i) b == i) x (laid g a backup (g.peer (g.group i) b))) (g.peers (g.group i))) (replicate 512 0)
+    cond (nat_lt 0 g.groups) (gathered (λ b. false) (λ b. cond (g.peer (g.group i) b == i) x (laid g a backup (g.peer (g.group i) b))) (g.peers (g.group i))) (replicate SECTOR 0)
 
 -- slots have no parity
 abbrev pub parity_at : Home → (source target : Geometry) → Meaning → (backup i : ℕ) → List ℕ → List ℕ
 parity_at Source s t a backup i x = parity_with s a backup i x
 parity_at Target s t a backup i x = parity_with t a backup i x
-parity_at Backup s t a backup i x = replicate 512 0
+parity_at Backup s t a backup i x = replicate SECTOR 0

@@ -1,5 +1,6 @@
 -- What an open makes of its shelf, done or met: what is found, the steps that follow, and the volume that is opened.
 use Rattle.std.specs.Prelude.{◌≡◌, ℕ, List, [], ◌∷◌, Some, None, Option}
+use Rattle.head.specs.declared.TheConstants.{LOGGED_DATUM_AT, LOGGED_PARITY_AT}
 use Rattle.layout.specs.Geometry.{Geometry}
 use Rattle.layout.specs.declared.label.Label.{Label}
 use Rattle.shelf.specs.Meaning.{Meaning}
@@ -29,8 +30,8 @@ Disarmed (Some i) h k = Next h h.source h.progress None k
 pub record RedoSteps (s t : Geometry) (i : ℕ) (h : Head) (a b : Meaning) (fs : List Step) (k : Head) : Type 0 where
   pub datum : List ℕ
   pub parity : List ℕ
-  pub logged_datum : SeenBy (opened_crew s t h) a b (λ m. common m 1) datum
-  pub logged_parity : SeenBy (opened_crew s t h) a b (λ m. common m 2) parity
+  pub logged_datum : SeenBy (opened_crew s t h) a b (λ m. common m LOGGED_DATUM_AT) datum
+  pub logged_parity : SeenBy (opened_crew s t h) a b (λ m. common m LOGGED_PARITY_AT) parity
   pub disarms : Next h h.source h.progress None k
   pub fits : Fits k
   pub steps : fs ≡ headed h ∷ (λ f. applied (home_by (opened_volume s t h) i) s t h.backup i datum parity f) ∷ headed k ∷ []

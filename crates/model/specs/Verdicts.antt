@@ -1,5 +1,6 @@
 -- What a call answers before its first operation: the first of its refusals that applies, in the order in which they are told.
 use Rattle.std.specs.Prelude.{◌≡◌, ℕ, ◌+◌, ◌-◌, ◌*◌, ◌/◌, Bool, true, false, cond, not, ◌&&◌, List, [], ◌∷◌, Some, None, Ok, Err, Option, Result, ◌==◌, nat_le, nat_lt}
+use Rattle.sector.specs.declared.TheConstants.{SECTOR}
 use Rattle.sector.specs.declared.limits.TheConstants.{FEWEST_MEMBERS, MOST_MEMBERS}
 use Rattle.answer.specs.declared.Refusal.{Refusal}
 use Rattle.answer.specs.declared.Refused.{Refused}
@@ -16,7 +17,7 @@ use Rattle.model.specs.declared.phase.Phase.TheVariants.{Before, Moving, Shut}
 use Rattle.model.specs.Knowing.{Volume}
 use Rattle.model.specs.declared.call.Call.{Call}
 use Rattle.model.specs.declared.call.Call.TheVariants.{Read, Write, Begin, Keep, Copy, Settle, Finish}
-use Rattle.head.specs.declared.TheConstants.{MOST_BACKUP, MOST_NUMBER}
+use Rattle.head.specs.declared.TheConstants.{MOST_BACKUP, MOST_NUMBER, SLOTS_AT}
 use Rattle.shelf.specs.declared.TheConstants.{MOST_SECTORS}
 
 -- the first refusal whose condition holds
@@ -79,7 +80,7 @@ abbrev pub emptied : Option ℕ → ℕ → Option ℕ
 emptied hand row = cond (is_hand hand row) None hand
 
 abbrev pub access_verdict : Volume → (i length : ℕ) → Option Refusal
-access_verdict v i length = first_refusal ((not (length == 512), BufferLength) ∷ (nat_le v.size i, PastEnd) ∷ [])
+access_verdict v i length = first_refusal ((not (length == SECTOR), BufferLength) ∷ (nat_le v.size i, PastEnd) ∷ [])
 
 abbrev pub read_verdict : Volume → Meaning → (i length : ℕ) → Option Refusal
 read_verdict v a i length = earlier (admission Read v a) (access_verdict v i length)
@@ -96,7 +97,7 @@ shelf_in_limits a = (nat_le FEWEST_MEMBERS a.members && nat_le a.members MOST_ME
 
 -- the layout, the slots before it and a volume of this size have room on the shelf
 abbrev pub fits : Meaning → Geometry → (backup size : ℕ) → Bool
-fits a g backup size = shelf_in_limits a && (nat_le g.members a.members && (nat_le (3 + backup + g.depth) a.sectors && nat_le size (capacity g)))
+fits a g backup size = shelf_in_limits a && (nat_le g.members a.members && (nat_le (SLOTS_AT + backup + g.depth) a.sectors && nat_le size (capacity g)))
 
 abbrev pub begin_verdict : Label → Volume → Meaning → Option Refusal
 begin_verdict label v a = earlier (admission Begin v a) (first_refusal (

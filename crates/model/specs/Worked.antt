@@ -1,5 +1,5 @@
 -- Examples of every definition of this crate. Contents of one byte stand for sectors.
-use Rattle.std.specs.Prelude.{◌≡◌, ℕ, ◌≤◌, Bool, true, false, cond, List, [], ◌∷◌, replicate, Some, None, Option, ◌==◌, nat_eq}
+use Rattle.std.specs.Prelude.{◌≡◌, ℕ, ◌≤◌, Bool, true, false, cond, List, [], ◌∷◌, Some, None, Option, ◌==◌, nat_eq}
 use Rattle.std.proofs.Common.{arith}
 use Rattle.answer.specs.declared.Refusal.{Refusal}
 use Rattle.answer.specs.declared.Refusal.TheVariants.{BufferLength, PastEnd, WrongPhase, RowInHand, NeedNotKept, BackupFull, AllKept, RowsLeft, AllSettled, DistanceAboveBackup, OutOfLimits, NoHead, LabelsDiffer, HeadMisfit, MembersLost, PowerLost, NumbersSpent, WrongGrant}
@@ -14,7 +14,7 @@ use Rattle.shelf.specs.Meaning.{Meaning}
 use Rattle.model.specs.declared.phase.Phase.{Phase}
 use Rattle.model.specs.declared.phase.Phase.TheVariants.{Before, Moving, After, Shut}
 use Rattle.model.specs.declared.told.Told.{Told}
-use Rattle.model.specs.declared.request.Request.TheVariants.{Write, Begin, Keep, Copy, Settle, Finish, Open}
+use Rattle.model.specs.declared.request.Request.TheVariants.{Write, Begin, Copy, Settle, Finish, Open}
 use Rattle.model.specs.declared.request.Answered.TheVariants.{Met}
 use Rattle.model.specs.Contents.{home_in}
 use Rattle.model.specs.Disks.{Disk, after, disk_of, granted, refused}
@@ -121,8 +121,8 @@ label kind = record { kind = kind; members = 2; copies = 1; reserved = 0; chunk 
 abbrev pub mirror_label : Label
 mirror_label = record { kind = 3; members = 2; copies = 2; reserved = 0; chunk = 1; depth = 2 }
 
-abbrev pub head_of : (number : ℕ) → (1 ≤ number) × (number ≤ MOST_NUMBER) → Progress → Option ℕ → Head
-head_of number some progress armed = record {
+abbrev pub mirror_head : (number : ℕ) → (1 ≤ number) × (number ≤ MOST_NUMBER) → Progress → Option ℕ → Head
+mirror_head number some progress armed = record {
   number = number;
   source = mirror_label;
   progress = progress;
@@ -138,10 +138,10 @@ abbrev pub opens : Option Head → (ℕ → Bool) → Label → Option Refusal
 opens h there target = open_verdict h (example_shelf true there right) mirror_label target mirror stripe
 
 abbrev pub first_head : Progress → Option ℕ → Option Head
-first_head progress armed = Some (head_of 1 (omega arith, omega arith) progress armed)
+first_head progress armed = Some (mirror_head 1 (omega arith, omega arith) progress armed)
 
 abbrev pub last_head : Progress → Option ℕ → Option Head
-last_head progress armed = Some (head_of last_number (omega arith, omega arith) progress armed)
+last_head progress armed = Some (mirror_head last_number (omega arith, omega arith) progress armed)
 
 pub record CountExamples : Type 0 where
   pub none : stray_count mirror stripe (example_shelf true all right) 1 told disk ≡ 0

@@ -1,5 +1,7 @@
 -- Examples of runs: some that keep the law, and for each of its parts some that break it. Two mirrored sectors move into one row of two stripes,
 -- with one backup slot.
+use Rattle.std.proofs.Common.{arith}
+use Rattle.head.specs.declared.state.Head.{Head}
 use Rattle.std.specs.Prelude.{◌≡◌, ℕ, ◌+◌, Bool, true, false, cond, List, [], ◌∷◌, replicate, Some, None, Ok, Err, Option, Result, ◌==◌}
 use Rattle.answer.specs.declared.Operation.TheVariants.{Write as Writing}
 use Rattle.answer.specs.declared.Refused.{Refused}
@@ -12,13 +14,14 @@ use Rattle.model.specs.declared.request.Request.{Request}
 use Rattle.model.specs.declared.request.Request.TheVariants.{Read, Write, Begin, Keep, Copy, Settle, Finish, Open}
 use Rattle.model.specs.Disks.{Disk, disk_of}
 use Rattle.model.specs.Handed.{Handed}
-use Rattle.model.specs.Histories.{Called, Creation, Law, Moment, due, taken_after}
+use Rattle.model.specs.Histories.{Called, Creation, Law, Moment, due, in_use_after, taken_after}
 use Rattle.model.specs.Handed.Handed.{Nothing, Buffer, Distance, Row, Counts}
-use Rattle.model.specs.Worked.{all, mirror, example_shelf, stripe, last_number}
-use Rattle.head.specs.declared.TheConstants.{MOST_NUMBER}
+use Rattle.head.specs.Heads.{head_bytes}
+use Rattle.model.specs.Worked.{all, example_shelf, last_number, mirror, stripe}
+use Rattle.model.specs.WorkedCalls.{underway}
 
 -- both members are there
-abbrev shelf : (on : Bool) → (ℕ → ℕ → List ℕ) → Meaning
+abbrev pub shelf : (on : Bool) → (ℕ → ℕ → List ℕ) → Meaning
 shelf on held = example_shelf on all held
 
 -- the volume with this phase, settled and kept rows, hand and number, and its shelf
@@ -54,7 +57,7 @@ abbrev cut_at : (sector : ℕ) → Refused
 cut_at s = record { refusal = PowerLost; fault = Some (record { operation = Writing; member = 0; sector = s; row = None }) }
 
 -- zeros; then 5 in both copies of sector 1; then 6 in one copy of sector 0 as well, and in both
-abbrev blank : ℕ → ℕ → List ℕ
+abbrev pub blank : ℕ → ℕ → List ℕ
 blank k s = replicate 512 0
 
 abbrev one_written : ℕ → ℕ → List ℕ
@@ -140,10 +143,30 @@ move size result held = goes_on size (finishes size 1 result held ∷ [])
 abbrev long_move : List Called
 long_move = begins 2 1 2 ∷ keeps 2 0 ∷ keeps 2 1 ∷ keeps 2 2 ∷ copies 2 3 0 ∷ settles 2 3 ∷ finishes 2 3 (Ok (Counts 1 3)) blank ∷ []
 
--- keep is due, is refused, and leaves the power so
-abbrev refuses_keep : (number : ℕ) → Refused → (on : Bool) → List Called
-refuses_keep number why on =
-    begins 2 1 number ∷ call Keep (Err why) (under_way 2 0 0 None number) (moment_of 2 Moving 0 0 None number (shelf on blank)) ∷ []
+-- under way, with the last number; and zeros under that head
+abbrev pub last_begun : Head
+last_begun = underway last_number (omega arith, omega arith) 0 0
+
+abbrev pub spent : ℕ → ℕ → List ℕ
+spent k s = cond (s == 0) (head_bytes last_begun) (blank k s)
+
+-- keep is due on these sectors, is refused, and leaves the power so
+abbrev refuses_keep_over : (ℕ → ℕ → List ℕ) → (number : ℕ) → Refused → (on : Bool) → List Called
+refuses_keep_over held number why on =
+    call Begin (Ok (Distance 1)) (still 1 (shelf true blank)) (moment_of 2 Moving 0 0 None number (shelf true held))
+    ∷ call Keep (Err why) (moment_of 2 Moving 0 0 None number (shelf true held)) (moment_of 2 Moving 0 0 None number (shelf on held))
+    ∷ []
+
+abbrev refuses_keep : Refused → (on : Bool) → List Called
+refuses_keep why on = refuses_keep_over blank 2 why on
+
+-- the same after a read that pleads that the power went, and left it on
+abbrev refuses_after_plea : Refused → List Called
+refuses_after_plea why =
+    begins 2 1 2
+    ∷ call (Read 0) (Err (cut_at 4)) (under_way 2 0 0 None 2) (under_way 2 0 0 None 2)
+    ∷ call Keep (Err why) (under_way 2 0 0 None 2) (under_way 2 0 0 None 2)
+    ∷ []
 
 -- so is copy, with this number before it
 abbrev refuses_copy : (number : ℕ) → Refused → List Called
@@ -153,29 +176,37 @@ refuses_copy number why =
     ∷ call Copy (Err why) (under_way 2 0 1 None number) (under_way 2 0 1 None number)
     ∷ []
 
+-- settle of the row in hand
+abbrev refuses_settle : Refused → List Called
+refuses_settle why = begins 2 1 2 ∷ keeps 2 0 ∷ copies 2 1 0 ∷ call (Settle 0) (Err why) (under_way 2 0 1 (Some 0) 3) (under_way 2 0 1 None 3) ∷ []
+
 -- and finish
 abbrev refuses_finish : Refused → List Called
 refuses_finish why = goes_on 2 (call Finish (Err why) (under_way 2 1 1 None 4) (under_way 2 1 1 None 4) ∷ [])
 
--- a disk under way with so many rows settled and kept
-abbrev walking : (settled kept : ℕ) → Disk
-walking p q = disk_of ((7 ∷ []) ∷ (8 ∷ []) ∷ []) Moving p q None
+-- a disk under way with so many rows settled and kept, and this row in hand
+abbrev walking : (settled kept : ℕ) → Option ℕ → Disk
+walking p q hand = disk_of ((7 ∷ []) ∷ (8 ∷ []) ∷ []) Moving p q hand
 
 -- a call on a volume before a move, as far as it matters to what is counted
 abbrev answers : Request → Result Handed Refused → Called
 answers request result = call request result (still 1 (shelf true blank)) (still 1 (shelf true blank))
 
--- When the stray count is taken, and which step is due.
+-- When the stray count is taken, when the volume is in use, and which call is due.
 pub record CourseExamples : Type 0 where
   pub stays : taken_after (answers (Read 1) (Ok (Buffer []))) true ≡ true
   pub met : taken_after (answers (Read 1) (Err (cut_at 5))) true ≡ false
   pub still_off : taken_after (answers (Read 1) (Err (not_now PowerLost))) false ≡ false
   pub opened : taken_after (answers Open (Ok Nothing)) false ≡ true
   pub not_opened : taken_after (answers Open (Err (not_now LabelsDiffer))) true ≡ false
-  pub keep_due : due Keep mirror stripe (walking 0 0)
-  pub copy_due : due Copy mirror stripe (walking 0 1)
-  pub finish_due : due Finish mirror stripe (walking 1 1)
-  pub copy_not_due : due Copy mirror stripe (walking 0 0) → ⊥
+  pub in_use : in_use_after (answers (Read 1) (Err (cut_at 5))) true ≡ true
+  pub out_of_use : in_use_after (answers Open (Err (not_now LabelsDiffer))) true ≡ false
+  pub keep_due : due Keep mirror stripe (walking 0 0 None)
+  pub copy_due : due Copy mirror stripe (walking 0 1 None)
+  pub settle_due : due (Settle 0) mirror stripe (walking 0 1 (Some 0))
+  pub finish_due : due Finish mirror stripe (walking 1 1 None)
+  pub copy_not_due : due Copy mirror stripe (walking 0 0 None) → ⊥
+  pub settle_first : due Copy mirror stripe (walking 0 1 (Some 0)) → ⊥
 
 -- a run on two sectors of zeros
 abbrev RunOfTwo : List Called → Type 0
@@ -192,9 +223,9 @@ pub record RunExamples : Type 0 where
   -- a whole move
   pub moves : RunOfTwo (move 2 (Ok (Counts 1 1)) blank)
   -- A keep that is due may be refused where the power is off after it, met at an operation or before, and where no number is left.
-  pub keep_met : RunOfTwo (refuses_keep 2 (cut_at 3) false)
-  pub keep_off : RunOfTwo (refuses_keep 2 (not_now PowerLost) false)
-  pub keep_spent : RunOfTwo (refuses_keep last_number (not_now NumbersSpent) true)
+  pub keep_met : RunOfTwo (refuses_keep (cut_at 3) false)
+  pub keep_off : RunOfTwo (refuses_keep (not_now PowerLost) false)
+  pub keep_spent : RunOfTwo (refuses_keep_over spent last_number (not_now NumbersSpent) true)
 
 -- Runs that break the law, each in one part.
 pub record BreachExamples : Type 0 where
@@ -208,8 +239,12 @@ pub record BreachExamples : Type 0 where
   pub other_layouts : RunOfTwo (call (Write 1 (5 ∷ [])) (Ok Nothing) (still 1 (shelf true blank)) as_stripes ∷ []) → ⊥
   -- after a cut, open shows a mixture, and neither candidate
   pub open_other : RunOfTwo (cut_and (open_with half_written ∷ [])) → ⊥
-  -- Power, members and numbers are there: no refusal of the step that is due is an excuse, with an operation or without. A copy needs no number.
-  pub keep_pleads : (why : Refused) → RunOfTwo (refuses_keep 2 why true) → ⊥
+  -- Power, members and numbers are there: no refusal of the call that is due is an excuse, with an operation or without, nor is one of a call before it, or a
+  -- last number that no head has. A copy needs no number.
+  pub keep_pleads : (why : Refused) → RunOfTwo (refuses_keep why true) → ⊥
+  pub keep_claims : (why : Refused) → RunOfTwo (refuses_keep_over blank last_number why true) → ⊥
+  pub read_pleads : (why : Refused) → RunOfTwo (refuses_after_plea why) → ⊥
+  pub settle_pleads : (why : Refused) → RunOfTwo (refuses_settle why) → ⊥
   pub copy_pleads : (number : ℕ) (why : Refused) → RunOfTwo (refuses_copy number why) → ⊥
   pub finish_pleads : (why : Refused) → RunOfTwo (refuses_finish why) → ⊥
   -- begin answers another distance, and copy a grant of another row

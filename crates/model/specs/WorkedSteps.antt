@@ -16,7 +16,7 @@ use Rattle.model.specs.Knowing.{Volume}
 use Rattle.model.specs.Reading.{content_of, home_by, parity_with}
 use Rattle.model.specs.Reopening.{opened_volume}
 use Rattle.model.specs.Verdicts.{begin_verdict}
-use Rattle.model.specs.Worked.{all, head_of, last, mirror, right, example_shelf, stripe, volume_of}
+use Rattle.model.specs.Worked.{all, mirror_head, last, mirror, right, example_shelf, stripe, volume_of}
 
 -- one group: two sectors and their parity, on three members
 abbrev pub triple : Geometry
@@ -108,7 +108,7 @@ pub record StepExamples : Type 0 where
   pub group_datum : applied Source triple triple 1 1 (5 ∷ []) (6 ∷ []) right 1 4 ≡ 5 ∷ []
   pub group_parity : applied Source triple triple 1 1 (5 ∷ []) (6 ∷ []) right 2 4 ≡ 6 ∷ []
   pub other_peer : applied Source triple triple 1 1 (5 ∷ []) (6 ∷ []) right 0 4 ≡ 7 ∷ []
-  pub headed : slice_index_or (headed (head_of 1 (omega arith, omega arith) Idle None) right 1 0) 1 0 ≡ 0x48
+  pub headed : slice_index_or (headed (mirror_head 1 (omega arith, omega arith) Idle None) right 1 0) 1 0 ≡ 0x48
   pub kept : saved 1 read 0 1 right 1 3 ≡ 7 ∷ []
   pub none_kept : saved 1 read 0 0 right 1 3 ≡ 9 ∷ []
   pub copied : with_places stripe 1 (fresh_row stripe 0 (padded 2 read)) right 1 4 ≡ 8 ∷ []
@@ -117,7 +117,7 @@ pub record StepExamples : Type 0 where
   pub row_parity : slice_index_or (with_places triple 1 (fresh_row triple 0 (padded 1 read)) right 2 4) 0 0 ≡ 7
   pub created : created_over mirror 1 right 1 5 ≡ replicate 512 0
   pub created_part : created_over stripe 1 right 1 5 ≡ 8 ∷ []
-  pub redone : applied (home_by (opened_volume mirror stripe (head_of 1 (omega arith, omega arith) Idle (Some 1))) 1) mirror stripe 1 1 (5 ∷ []) [] right 0 5 ≡ 5 ∷ []
+  pub redone : applied (home_by (opened_volume mirror stripe (mirror_head 1 (omega arith, omega arith) Idle (Some 1))) 1) mirror stripe 1 1 (5 ∷ []) [] right 0 5 ≡ 5 ∷ []
 
 -- the overlap distance of this move is 4, so that four slots are enough and three are not
 pub record BeginExamples : Type 0 where

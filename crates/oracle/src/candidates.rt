@@ -3,7 +3,7 @@ ghost use Rattle.std.specs.Prelude.{◌≡◌, ◌∷◌, ◌++◌, [], ◌<◌,
 ghost use Rattle.model.specs.Disks.{after, candidates, created};
 ghost use Rattle.model.specs.Histories.{chosen, first_disk};
 ghost use Rattle.oracle.specs.Showing.{FirstShown, CanCount, CanCountAll, SameDisks, candidates_of, each_shown, shown, shown_option};
-ghost use Rattle.model.specs.Strays.{stray_count as stray_count};
+ghost use Rattle.model.specs.Strays.{stray_count};
 ghost use Rattle.model.specs.declared.request.Answered.TheVariants.{Granted, Met, Refused};
 
 use crate::count::strays;
@@ -69,7 +69,7 @@ impl Candidates {
     }
 
     // The disk to go on from.
-    pub fn present(&self) -> &Disk
+    pub fn first(&self) -> &Disk
         ensures { shown result.now ≡ first_disk (candidates_of self.now) }
     {
         &self.first

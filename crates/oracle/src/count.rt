@@ -4,7 +4,7 @@ ghost use Rattle.std.specs.Int.NonZero.{non_zero_u32_get};
 ghost use Rattle.model.specs.Contents.{home_shows_other, home_in};
 ghost use Rattle.model.specs.Disks.{filled};
 ghost use Rattle.oracle.specs.Showing.{shown};
-ghost use Rattle.model.specs.Strays.{is_stray, same_phase, same_told, stray_below, stray_count as stray_count};
+ghost use Rattle.model.specs.Strays.{is_stray, same_phase, same_told, stray_below, stray_count};
 
 use crate::disk::Disk;
 use crate::first::count_below;

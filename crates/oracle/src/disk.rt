@@ -151,7 +151,7 @@ fn reopened(phase: Phase) -> Phase
 
 // So many sectors of zeros.
 fn blank(heap: Global, size: usize) -> Result<Vec<Sector>, AllocError>
-    ensures { IfOk result (λ v. v.items ≡ replicate size (replicate 512 0)) }
+    ensures { IfOk result (λ v. v.items ≡ replicate size (replicate SECTOR 0)) }
 {
     vec![in heap; zeros(); size]
 }

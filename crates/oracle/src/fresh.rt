@@ -4,7 +4,7 @@ ghost use Rattle.model.specs.Crew.{count};
 ghost use Rattle.model.specs.Contents.{gathered, padded};
 ghost use Rattle.oracle.specs.Showing.{shown};
 ghost use Rattle.oracle.specs.Looks.{FreshAt};
-ghost use Rattle.model.specs.Strays.{is_misplaced, misplaced_count as misplaced_count};
+ghost use Rattle.model.specs.Strays.{is_misplaced, misplaced_count};
 
 use crate::disk::Disk;
 use crate::first::count_below;

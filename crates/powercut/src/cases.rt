@@ -1,7 +1,7 @@
 // One run of a list of calls, with trouble in one of them and in the opens after it.
 use crate::rig::{Loss, Rig, Trouble};
 use crate::run::{Run, Stand};
-use crate::steps::Step;
+use crate::turns::Turn;
 use crate::tally::Tally;
 use drill::DrillShelf;
 use layout::Layout;
@@ -22,7 +22,7 @@ pub enum Sequel {
 #[derive(Clone, Copy)]
 pub struct Case<'a> {
     pub stand: Stand<'a>,
-    pub steps: &'a [Step],
+    pub turns: &'a [Turn],
     // the troubled call
     pub at: usize,
     pub trouble: Trouble,
@@ -57,7 +57,7 @@ impl<'a> Case<'a> {
     // Goes through the list with no trouble.
     pub fn play_plain<S: Rig + Drop>(&self) -> Result<Tally, AllocError> {
         let mut run = Run::<S>::start(&self.stand)?;
-        let played = run.go_on(self.steps).and_then(|()| run.go_to_end());
+        let played = run.go_on(self.turns).and_then(|()| run.go_to_end());
         let tally = run.end();
         played?;
         Ok(tally)
@@ -72,11 +72,11 @@ impl<'a> Case<'a> {
     }
 
     fn clock(&self, run: &mut Run<DrillShelf>) -> Result<Operations, AllocError> {
-        let Some(step) = self.go_to_trouble(run)? else {
+        let Some(turn) = self.go_to_trouble(run)? else {
             return Ok(Operations::default());
         };
         let before = run.volume.shelf().clock();
-        run.take(step)?;
+        run.take(turn)?;
         let after = run.volume.shelf().clock();
         self.recover(run)?;
         let opened = run.volume.shelf().clock();
@@ -86,22 +86,22 @@ impl<'a> Case<'a> {
         })
     }
 
-    // Takes the steps before the troubled one, which it answers, with its trouble arranged.
-    fn go_to_trouble<S: Rig + Drop>(&self, run: &mut Run<S>) -> Result<Option<Step>, AllocError> {
-        for step in self.steps.iter().take(self.at) {
-            run.repeat(*step)?;
+    // Takes the turns before the troubled one, which it answers, with its trouble arranged.
+    fn go_to_trouble<S: Rig + Drop>(&self, run: &mut Run<S>) -> Result<Option<Turn>, AllocError> {
+        for turn in self.turns.iter().take(self.at) {
+            run.repeat(*turn)?;
         }
         run.trouble = self.trouble;
         run.arrange(&self.trouble)?;
-        Ok(self.steps.get(self.at).copied())
+        Ok(self.turns.get(self.at).copied())
     }
 
     fn go<S: Rig + Drop>(&self, run: &mut Run<S>) -> Result<(), AllocError> {
-        if let Some(step) = self.go_to_trouble(run)? {
-            run.take(step)?;
+        if let Some(turn) = self.go_to_trouble(run)? {
+            run.take(turn)?;
         }
         self.recover(run)?;
-        let rest = self.steps.get(self.at.saturating_add(1)..).unwrap_or(&[]);
+        let rest = self.turns.get(self.at.saturating_add(1)..).unwrap_or(&[]);
         if run.ledger.is_torn() {
             return run.go_on(rest.get(..LOST).unwrap_or(rest));
         }
@@ -135,9 +135,9 @@ impl<S: Rig + Drop> Run<S> {
         Ok(())
     }
 
-    fn go_on(&mut self, steps: &[Step]) -> Result<(), AllocError> {
-        for step in steps {
-            self.take(*step)?;
+    fn go_on(&mut self, turns: &[Turn]) -> Result<(), AllocError> {
+        for turn in turns {
+            self.take(*turn)?;
         }
         Ok(())
     }
@@ -148,7 +148,7 @@ impl<S: Rig + Drop> Run<S> {
             if self.due().is_none() || self.ledger.is_torn() {
                 break;
             }
-            self.take(Step::Due)?;
+            self.take(Turn::Due)?;
         }
         Ok(())
     }

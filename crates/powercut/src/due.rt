@@ -1,8 +1,8 @@
-// What a step of a list asks, where a run has come to.
+// What a turn of a list asks, where a run has come to.
 use crate::pattern::pattern;
 use crate::rig::Rig;
 use crate::run::Run;
-use crate::steps::{Step, Which};
+use crate::turns::{Turn, Which};
 use layout::Layout;
 use model::phase::Phase;
 use model::request::Request;
@@ -39,17 +39,17 @@ impl Next {
 }
 
 impl<S: Rig + Drop> Run<S> {
-    // Takes a step; one that has nothing to be about is passed over.
-    pub fn take(&mut self, step: Step) -> Result<(), AllocError> {
-        match self.request(step) {
+    // Takes a turn; one that has nothing to be about is passed over.
+    pub fn take(&mut self, turn: Turn) -> Result<(), AllocError> {
+        match self.request(turn) {
             Some(request) => self.ask(&request),
             None => Ok(()),
         }
     }
 
-    // Takes a step that was counted in the run without trouble.
-    pub fn repeat(&mut self, step: Step) -> Result<(), AllocError> {
-        match self.request(step) {
+    // Takes a turn that was counted in the run without trouble.
+    pub fn repeat(&mut self, turn: Turn) -> Result<(), AllocError> {
+        match self.request(turn) {
             Some(request) => self.ask_uncounted(&request),
             None => Ok(()),
         }
@@ -79,18 +79,18 @@ impl<S: Rig + Drop> Run<S> {
         }
     }
 
-    fn request(&mut self, step: Step) -> Option<Request> {
-        match step {
-            Step::Write(which) => self.write(which),
-            Step::Read(which) => self.sector(which).map(Request::Read),
-            Step::Begin => Some(Request::Begin),
-            Step::Keep => Some(Request::Keep),
-            Step::Copy => self.stale().or(Some(Request::Copy)),
-            Step::Settle => self.held().map(Request::Settle),
-            Step::HandBack => self.held().map(Request::HandBack),
-            Step::Finish => Some(Request::Finish),
-            Step::Open => Some(Request::Open),
-            Step::Due => self.stale().or(self.due()),
+    fn request(&mut self, turn: Turn) -> Option<Request> {
+        match turn {
+            Turn::Write(which) => self.write(which),
+            Turn::Read(which) => self.sector(which).map(Request::Read),
+            Turn::Begin => Some(Request::Begin),
+            Turn::Keep => Some(Request::Keep),
+            Turn::Copy => self.stale().or(Some(Request::Copy)),
+            Turn::Settle => self.held().map(Request::Settle),
+            Turn::HandBack => self.held().map(Request::HandBack),
+            Turn::Finish => Some(Request::Finish),
+            Turn::Open => Some(Request::Open),
+            Turn::Due => self.stale().or(self.due()),
         }
     }
 

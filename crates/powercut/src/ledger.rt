@@ -25,7 +25,7 @@ impl Ledger {
 
     // The disk that the run goes on from.
     pub fn disk(&self) -> &Disk {
-        self.candidates.present()
+        self.candidates.first()
     }
 
     pub fn is_torn(&self) -> bool {

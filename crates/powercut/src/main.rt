@@ -10,7 +10,7 @@ mod pattern;
 mod random;
 mod rig;
 mod run;
-mod steps;
+mod turns;
 mod tally;
 mod tries;
 
@@ -59,7 +59,7 @@ const SEED: u64 = 0x2545_f491_4f6c_dd1d;
 
 // Tries a move with the list that is written for it, and with random ones.
 fn try_move(heap: Global, of: &Move, pace: Pace, random: &mut Random) -> Result<Tally, AllocError> {
-    let steps = steps::scripted(heap, of)?;
+    let turns = turns::scripted(heap, of)?;
     let sectors = of.members.saturating_mul(of.sectors());
     let rubbish = rubbish(heap, sectors.saturating_mul(2))?;
     let scripted = Tries {
@@ -69,15 +69,15 @@ fn try_move(heap: Global, of: &Move, pace: Pace, random: &mut Random) -> Result<
             rubbish: &rubbish,
             lost: None,
         },
-        steps: &steps,
+        turns: &turns,
         pace,
         stride: 1,
     };
     let mut tally = scripted.all()?;
     for _ in 0..pace.lists {
-        let steps = steps::random(heap, of, random, CALLS)?;
+        let turns = turns::random(heap, of, random, CALLS)?;
         let tries = Tries {
-            steps: &steps,
+            turns: &turns,
             stride: pace.stride,
             ..scripted
         };

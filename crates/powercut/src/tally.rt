@@ -14,7 +14,7 @@ pub enum Wrong {
     Misplaced(u64),
     // a finish answered other counts than the rows settled and kept
     Counts,
-    // a move with everything that it needs did not grant its next step
+    // a move with everything that it needs did not grant the call that is due
     Stuck,
 }
 

@@ -2,7 +2,7 @@
 use crate::cases::{Case, Sequel};
 use crate::rig::{Cut, Loss, Rig, Side, Trouble};
 use crate::run::Stand;
-use crate::steps::Step;
+use crate::turns::Turn;
 use crate::tally::Tally;
 use drill::DrillShelf;
 use layout::Layout;
@@ -40,7 +40,7 @@ fn is_tried(one: u64, other: u64, stride: u64) -> bool {
 #[derive(Clone, Copy)]
 pub struct Tries<'a> {
     pub stand: Stand<'a>,
-    pub steps: &'a [Step],
+    pub turns: &'a [Turn],
     pub pace: Pace,
     // of the operations of a call, one of so many is tried
     pub stride: u64,
@@ -50,7 +50,7 @@ impl<'a> Tries<'a> {
     // Every kind of trouble in every call, and the list without any.
     pub fn all(&self) -> Result<Tally, AllocError> {
         let mut tally = self.case(0).play_plain::<TrialShelf>()?;
-        for at in 0..self.steps.len() {
+        for at in 0..self.turns.len() {
             let operations = self.case(at).operations()?.call;
             for operation in 0..operations {
                 if is_tried(at as u64, operation, self.stride) {
@@ -117,7 +117,7 @@ impl<'a> Tries<'a> {
     fn case(&self, at: usize) -> Case<'a> {
         Case {
             stand: self.stand,
-            steps: self.steps,
+            turns: self.turns,
             at,
             trouble: Trouble::NONE,
             opens: [None, None],

@@ -1,6 +1,8 @@
 use Rattle.std.proofs.Common.{refl, ap, arith, false, length}
 use Rattle.std.proofs.lemmas.Bool.{both_ways}
+use Rattle.model.specs.WorkedRuns.{last_begun}
 use Rattle.model.proofs.Runs.{refusal_not_granted}
+use Rattle.model.proofs.WorkedRuns.{blank_unled, held_not_none, spent_led}
 use Rattle.model.proofs.worked_runs.Goals as goal
 
 pub returns : goal.returns
@@ -11,10 +13,14 @@ returns c = record {
     still_off = refl;
     opened = refl;
     not_opened = refl;
-    keep_due = (omega arith, omega arith);
-    copy_due = (omega arith, omega arith);
-    finish_due = refl;
+    in_use = refl;
+    out_of_use = refl;
+    keep_due = (refl, omega arith, omega arith);
+    copy_due = (refl, omega arith, omega arith);
+    settle_due = refl;
+    finish_due = (refl, refl);
     copy_not_due = λ d. (let few = d.1 in omega (arith, few));
+    settle_first = λ d. held_not_none d.0;
   };
   runs = record {
     run = record {
@@ -25,7 +31,7 @@ returns c = record {
         (
           record { count = λ t. refl; hands = (omega arith, refl); progress = λ t s. refl; fresh = tt },
           (
-            record { count = λ t. absurd (both_ways false refl t); hands = tt; progress = λ t s. absurd s.step; fresh = tt },
+            record { count = λ t. absurd (both_ways false refl t); hands = tt; progress = λ t s. absurd s.next; fresh = tt },
             (
               record { count = λ t. refl; hands = tt; progress = λ t s. refl; fresh = tt },
               (
@@ -45,7 +51,7 @@ returns c = record {
         (
           record { count = λ t. refl; hands = (omega arith, refl); progress = λ t s. refl; fresh = tt },
           (
-            record { count = λ t. absurd (both_ways false refl t); hands = tt; progress = λ t s. absurd s.step; fresh = tt },
+            record { count = λ t. absurd (both_ways false refl t); hands = tt; progress = λ t s. absurd s.next; fresh = tt },
             (
               record { count = λ t. refl; hands = tt; progress = λ t s. refl; fresh = tt },
               (
@@ -110,7 +116,7 @@ returns c = record {
       calls = (
         record { count = λ t. refl; hands = refl; progress = λ t s. refl; fresh = tt },
         (
-          record { count = λ t. refl; hands = tt; progress = λ t s. (let few = s.number refl in absurd (omega (arith, few))); fresh = tt },
+          record { count = λ t. refl; hands = tt; progress = λ t s. (let few = s.number refl last_begun spent_led in absurd (omega (arith, few))); fresh = tt },
           tt,
         ),
       );
@@ -126,18 +132,43 @@ returns c = record {
     keep_pleads = λ why law.
         refusal_not_granted why.fault (law.calls.1.0.progress refl (record {
           moving = refl;
-          free = refl;
-          step = (omega arith, omega arith);
+          next = (refl, omega arith, omega arith);
           on = refl;
           source = refl;
           target = refl;
-          number = λ n. omega arith;
+          number = λ n h led. absurd (blank_unled h led);
+        }));
+    keep_claims = λ why law.
+        refusal_not_granted why.fault (law.calls.1.0.progress refl (record {
+          moving = refl;
+          next = (refl, omega arith, omega arith);
+          on = refl;
+          source = refl;
+          target = refl;
+          number = λ n h led. absurd (blank_unled h led);
+        }));
+    read_pleads = λ why law.
+        refusal_not_granted why.fault (law.calls.1.1.0.progress refl (record {
+          moving = refl;
+          next = (refl, omega arith, omega arith);
+          on = refl;
+          source = refl;
+          target = refl;
+          number = λ n h led. absurd (blank_unled h led);
+        }));
+    settle_pleads = λ why law.
+        refusal_not_granted why.fault (law.calls.1.1.1.0.progress refl (record {
+          moving = refl;
+          next = refl;
+          on = refl;
+          source = refl;
+          target = refl;
+          number = λ n h led. absurd (blank_unled h led);
         }));
     copy_pleads = λ number why law.
         refusal_not_granted why.fault (law.calls.1.1.0.progress refl (record {
           moving = refl;
-          free = refl;
-          step = (omega arith, omega arith);
+          next = (refl, omega arith, omega arith);
           on = refl;
           source = refl;
           target = refl;
@@ -146,12 +177,11 @@ returns c = record {
     finish_pleads = λ why law.
         refusal_not_granted why.fault (law.calls.1.1.1.1.0.progress refl (record {
           moving = refl;
-          free = refl;
-          step = refl;
+          next = (refl, refl);
           on = refl;
           source = refl;
           target = refl;
-          number = λ n. omega arith;
+          number = λ n h led. absurd (blank_unled h led);
         }));
     distance_other = λ law. (let differs = law.calls.0.hands in omega (arith, differs));
     grant_other = λ law. (let differs = law.calls.1.1.0.hands in omega (arith, differs));

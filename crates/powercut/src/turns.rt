@@ -15,9 +15,9 @@ pub enum Which {
     Last(Home),
 }
 
-// One call of a list. A step that has nothing to be about is passed over.
+// One turn of a list: a call, said by where the move has come to. One that has nothing to be about is passed over.
 #[derive(Clone, Copy)]
-pub enum Step {
+pub enum Turn {
     Write(Which),
     Read(Which),
     Begin,
@@ -32,52 +32,52 @@ pub enum Step {
     Due,
 }
 
-const IN_SOURCE: Step = Step::Write(Which::First(Home::Source));
+const IN_SOURCE: Turn = Turn::Write(Which::First(Home::Source));
 
-const IN_TARGET: Step = Step::Write(Which::Last(Home::Target));
+const IN_TARGET: Turn = Turn::Write(Which::Last(Home::Target));
 
-const IN_BACKUP: Step = Step::Write(Which::First(Home::Backup));
+const IN_BACKUP: Turn = Turn::Write(Which::First(Home::Backup));
 
 // A whole move, with writes into every kind of home at every stage of it.
-pub fn scripted(heap: Global, of: &Move) -> Result<Vec<Step>, AllocError> {
-    let mut steps = Vec::new(heap);
+pub fn scripted(heap: Global, of: &Move) -> Result<Vec<Turn>, AllocError> {
+    let mut turns = Vec::new(heap);
     for sector in 0..of.size {
-        steps.push(Step::Write(Which::Number(sector)))?;
+        turns.push(Turn::Write(Which::Number(sector)))?;
     }
-    steps.push(Step::Begin)?;
+    turns.push(Turn::Begin)?;
     let mut kept: u64 = 0;
     for row in 0..of.ends.target.rows() {
         let need = need(&of.ends.source, &of.ends.target, of.size, row);
         for _ in kept..need {
-            for step in [Step::Keep, IN_BACKUP, Step::Read(Which::Last(Home::Backup))] {
-                steps.push(step)?;
+            for turn in [Turn::Keep, IN_BACKUP, Turn::Read(Which::Last(Home::Backup))] {
+                turns.push(turn)?;
             }
         }
         kept = kept.max(need);
-        push_row(&mut steps, row, of.ends.target.row_len())?;
+        push_row(&mut turns, row, of.ends.target.row_len())?;
     }
-    for step in [Step::Due, IN_TARGET, Step::Due, IN_SOURCE] {
-        steps.push(step)?;
+    for turn in [Turn::Due, IN_TARGET, Turn::Due, IN_SOURCE] {
+        turns.push(turn)?;
     }
-    Ok(steps)
+    Ok(turns)
 }
 
 // A target row: copied, written into and past and read past while it is in hand, and settled. The first one is handed back and copied again.
-fn push_row(steps: &mut Vec<Step>, row: u64, len: u64) -> Result<(), AllocError> {
+fn push_row(turns: &mut Vec<Turn>, row: u64, len: u64) -> Result<(), AllocError> {
     if row == 0 {
-        steps.push(Step::Copy)?;
-        steps.push(Step::HandBack)?;
+        turns.push(Turn::Copy)?;
+        turns.push(Turn::HandBack)?;
     }
-    let inside = Step::Write(Which::Number(row.saturating_mul(len)));
-    for step in [
-        Step::Due,
+    let inside = Turn::Write(Which::Number(row.saturating_mul(len)));
+    for turn in [
+        Turn::Due,
         inside,
         IN_SOURCE,
-        Step::Due,
+        Turn::Due,
         IN_TARGET,
         IN_SOURCE,
     ] {
-        steps.push(step)?;
+        turns.push(turn)?;
     }
     Ok(())
 }
@@ -88,35 +88,35 @@ pub fn random(
     of: &Move,
     random: &mut Random,
     calls: u64,
-) -> Result<Vec<Step>, AllocError> {
-    let mut steps = Vec::new(heap);
+) -> Result<Vec<Turn>, AllocError> {
+    let mut turns = Vec::new(heap);
     for sector in 0..of.size {
         if random.next() & 1 == 0 {
-            steps.push(Step::Write(Which::Number(sector)))?;
+            turns.push(Turn::Write(Which::Number(sector)))?;
         }
     }
-    steps.push(Step::Begin)?;
+    turns.push(Turn::Begin)?;
     for _ in 0..calls {
-        steps.push(random_step(random, of.size))?;
+        turns.push(random_step(random, of.size))?;
     }
-    Ok(steps)
+    Ok(turns)
 }
 
-fn random_step(random: &mut Random, size: u64) -> Step {
+fn random_step(random: &mut Random, size: u64) -> Turn {
     match random.next() & 31 {
-        0..12 => Step::Due,
-        12..15 => Step::Write(Which::Number(random_sector(random, size))),
-        15..17 => Step::Write(random_home(random)),
+        0..12 => Turn::Due,
+        12..15 => Turn::Write(Which::Number(random_sector(random, size))),
+        15..17 => Turn::Write(random_home(random)),
         17..20 => IN_SOURCE,
         20..22 => IN_TARGET,
         22..24 => IN_BACKUP,
-        24 => Step::Read(random_home(random)),
-        25 => Step::Copy,
-        26 => Step::Settle,
-        27 => Step::HandBack,
-        28 => Step::Open,
-        29 => Step::Finish,
-        _ => Step::Keep,
+        24 => Turn::Read(random_home(random)),
+        25 => Turn::Copy,
+        26 => Turn::Settle,
+        27 => Turn::HandBack,
+        28 => Turn::Open,
+        29 => Turn::Finish,
+        _ => Turn::Keep,
     }
 }
 
