@@ -1,5 +1,5 @@
 -- How an open ends.
-use Rattle.std.proofs.Common.{◌≡◌, ℕ, ◌-◌, ◌<◌, nat_lt, List, true, false, Some, None, Ok, Err, OnOk, Option, Result, inl, inr, refl, sym, ap, ◌∙◌, subst, rules, arith}
+use Rattle.std.proofs.Common.{◌≡◌, ℕ, ◌<◌, List, true, false, Some, None, Ok, Err, Option, Result, inr, refl, sym, ◌∙◌, subst, rules, arith}
 use Rattle.std.proofs.lemmas.Bool.{leb-false}
 use Rattle.answer.specs.declared.Fault.{Fault}
 use Rattle.answer.specs.declared.Refused.{Refused}
@@ -10,31 +10,31 @@ use Rattle.head.specs.declared.state.Head.{Head}
 use Rattle.head.specs.declared.state.Progress.{Progress}
 use Rattle.head.specs.declared.state.Progress.TheVariants.{Idle, Moving}
 use Rattle.shelf.specs.Meaning.{Meaning}
-use Rattle.model.specs.Answers.{InCall, OpenEnded, OpenGranted, ShutFor}
+use Rattle.model.specs.Answers.{InCall}
 use Rattle.model.specs.Crew.{borne, crew, enough}
 use Rattle.model.specs.Ends.{GoesOn, Met}
 use Rattle.model.specs.Faults.{OnHeads}
 use Rattle.model.specs.Knowing.{phase_by}
 use Rattle.model.specs.May.{May}
-use Rattle.model.specs.Opening.{Searched, cannot_disarm, head_fits, head_verdict, logged_fits}
+use Rattle.model.specs.Opening.{cannot_disarm, head_fits, logged_fits}
 use Rattle.model.specs.Readable.{InUse}
 use Rattle.model.specs.Reopening.{Disarmed, TakenUp, opened_volume}
-use Rattle.model.specs.Verdicts.{ShutsBy, fits, shut_for}
+use Rattle.model.specs.Verdicts.{fits}
 use Rattle.model.specs.declared.phase.Phase.{Phase}
 use Rattle.model.specs.declared.request.Request.TheVariants.{Open}
 use Rattle.stage.specs.Arrays.{crew_of}
-use Rattle.stage.specs.Endings.{OnMember, StageEnds, reads_and_writes}
-use Rattle.stage.proofs.Endings.{Going, member_as, member_same}
+use Rattle.stage.specs.Endings.{OnMember, reads_and_writes}
+use Rattle.stage.proofs.Endings.{Going, member_as}
 use Rattle.stage.proofs.Loops.{goes_then}
 use Rattle.stage.proofs.Places.{use_kept}
 use Rattle.volume.specs.declared.Volume.{Volume}
-use Rattle.volume.specs.TakingUp.{LetPass, NotTaken, TookUp, WentOn}
-use Rattle.volume.specs.Volumes.{Alike, CheckpointOf, OnlyShelf, SameLayouts, known}
+use Rattle.volume.specs.TakingUp.{LetPass, TookUp, WentOn}
+use Rattle.volume.specs.Volumes.{Alike, CheckpointOf, OnlyShelf, known}
 use Rattle.volume.proofs.Ending.{checkpoint_met, heads_on_member}
 use Rattle.volume.proofs.Founding.{fits_room, headed_by}
 use Rattle.volume.proofs.Housing.{both_left, both_right}
 use Rattle.volume.proofs.Looking.{in_call, met_as, operates_all}
-use Rattle.volume.proofs.Writing.{met_later, onto, same_crew}
+use Rattle.volume.proofs.Writing.{met_later, onto}
 
 -- the source is in force in each phase that a volume is opened in
 source_in_force : (p : Progress) (s t : Geometry) (x : Meaning) → enough (crew (phase_by p) s t) x ≡ true → borne s x ≡ true
