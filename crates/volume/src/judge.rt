@@ -1,11 +1,11 @@
 // What is judged before the first operation of a call, in the order in which several refusals are told.
-ghost use Rattle.std.specs.Prelude.{◌≡◌, ◌+◌, ◌*◌, ◌<◌, ◌≤◌, IfOk, if◌then◌else◌, Some, None, OnOk, true};
+ghost use Rattle.std.specs.Prelude.{◌≡◌, ◌+◌, ◌*◌, ◌<◌, ◌≤◌, IfOk, if◌then◌else◌, Some, None, OnOk, false, true};
 ghost use Rattle.answer.specs.declared.Refusal.TheVariants.{NumbersSpent};
 ghost use Rattle.head.specs.declared.TheConstants.{MOST_NUMBER};
 ghost use Rattle.model.specs.Crew.{crew, enough};
 ghost use Rattle.model.specs.declared.phase.Phase.TheVariants.{Before, Moving};
 ghost use Rattle.model.specs.Knowing.{phase_by};
-ghost use Rattle.model.specs.Opening.{head_fits, head_verdict, layouts_named, logged_fits, progress_fits, target_named, walk_fits};
+ghost use Rattle.model.specs.Opening.{cannot_disarm, head_fits, head_verdict, layouts_named, logged_fits, progress_fits, target_named, walk_fits};
 ghost use Rattle.model.specs.Verdicts.{Judged, access_verdict, admission, begin_verdict, copy_verdict, create_verdict, finish_verdict, fits as room, is_hand, shelf_in_limits, keep_verdict, read_verdict, settle_verdict, spent, write_verdict};
 ghost use Rattle.volume.specs.Volumes.{HasRoom, distance_in, hand_of, head_of, known, phase_of, shelf_of, source_of, target_of};
 
@@ -235,6 +235,8 @@ impl<S: Shelf, L: Layout> Volume<S, L> {
     // Whether a head that was found can be opened on this shelf with these layouts.
     pub(crate) fn judge_head(&self, head: &Head) -> Result<(), Refusal>
         ensures fits { OnOk result (head_fits head.now (S.meaning (shelf_of self.now)) (L.geometry (source_of self.now)) (L.geometry (target_of self.now)) ≡ true) }
+        ensures enough { OnOk result (enough (crew (phase_by head.now.progress) (L.geometry (source_of self.now)) (L.geometry (target_of self.now))) (S.meaning (shelf_of self.now)) ≡ true) }
+        ensures left { OnOk result (cannot_disarm head.now.armed head.now.number ≡ false) }
         ensures verdict { Judged (head_verdict head.now (S.meaning (shelf_of self.now)) (L.named (source_of self.now)) (L.named (target_of self.now)) (L.geometry (source_of self.now)) (L.geometry (target_of self.now))) result }
     {
         if !self.names_layouts(head) {

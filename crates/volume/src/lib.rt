@@ -6,15 +6,16 @@ ghost use Rattle.std.specs.Prelude.{◌≡◌, ◌+◌, ◌*◌, ◌<◌, ◌≤
 ghost use Rattle.head.specs.declared.TheConstants.{MOST_NUMBER};
 ghost use Rattle.head.specs.Heads.{kept_rows, settled_rows};
 ghost use Rattle.head.specs.declared.state.Progress.TheVariants.{Moving as UnderWay};
-ghost use Rattle.model.specs.Answers.{CreateEnded};
+ghost use Rattle.model.specs.Answers.{CreateEnded, OpenEnded};
 ghost use Rattle.model.specs.Handed.Handed.{Buffer, Counts, Distance, Nothing, Row};
 ghost use Rattle.model.specs.declared.request.Request.TheVariants.{Begin, Copy, Finish, HandBack, Keep, Read, Settle, Write};
 ghost use Rattle.model.specs.May.{From, May, nothing};
 ghost use Rattle.model.specs.Effects.{First};
 ghost use Rattle.model.specs.Knowing.{phase_by};
-ghost use Rattle.model.specs.Opening.{OpensBy, Restarted};
-ghost use Rattle.model.specs.Verdicts.{NotShut, RefusedBy, ShutBy, ShutsBy, begin_verdict, copy_verdict, create_verdict, emptied, finish_verdict, hand_back_verdict, is_hand, keep_verdict, read_verdict, settle_verdict, write_verdict};
+ghost use Rattle.model.specs.Opening.{Restarted};
+ghost use Rattle.model.specs.Verdicts.{RefusedBy, ShutsBy, begin_verdict, copy_verdict, create_verdict, emptied, finish_verdict, hand_back_verdict, is_hand, keep_verdict, read_verdict, settle_verdict, write_verdict};
 ghost use Rattle.stage.specs.Endings.{HasVolume};
+ghost use Rattle.volume.specs.TakingUp.{LetPass, TookUp, WentOn};
 ghost use Rattle.volume.specs.Volumes.{Alike, CallEnds, Carried, CheckpointOf, Housed, KeepEnds, LaidOut, OnlyHand, OnlyShelf, SameLayouts, StaysHoused, distance_in, hand_of, head_of, known, phase_of, granted_row, rowed, shelf_of, source_of, target_of};
 
 pub mod grant;
@@ -70,8 +71,7 @@ impl<S: Shelf, L: Layout> Volume<S, L> {
 
     // The volume that a shelf holds, once power is back. An idle head needs the source only. It stands beside the result, as in create.
     pub fn open(shelf: S, source: L, target: L) -> (Volume<S, L>, Result<(), Refused>)
-        ensures head { OpensBy (L.named source) (L.named target) (L.geometry source) (L.geometry target) (S.meaning shelf) (S.meaning (shelf_of result.0)) result.1 }
-        ensures shut { ShutBy (phase_of result.0) result.1 }
+        ensures ends { OpenEnded (L.named source) (L.named target) (L.geometry source) (L.geometry target) (S.meaning shelf) (known L.geometry result.0) (head_of result.0) (S.meaning (shelf_of result.0)) result.1 }
         ensures housed { OnOk result.1 (Housed (known L.geometry result.0) (S.meaning (shelf_of result.0))) }
     {
         let mut volume = Volume::unopened(shelf, source, target);
@@ -308,8 +308,8 @@ impl<S: Shelf, L: Layout> Volume<S, L> {
 
     // Finds the head that leads, has every member hold it, and finishes a write that it is armed for.
     fn take_up(&mut self) -> Result<(), Refused>
-        ensures in_use { OnOk result (NotShut (phase_of self.new)) }
-        ensures head { OpensBy (L.named (source_of self.old)) (L.named (target_of self.old)) (L.geometry (source_of self.old)) (L.geometry (target_of self.old)) (S.meaning (shelf_of self.old)) (S.meaning (shelf_of self.new)) result }
+        ensures ends { hand_of self.old ≡ None → TookUp (L.named (source_of self.old)) (L.named (target_of self.old)) (L.geometry (source_of self.old)) (L.geometry (target_of self.old)) (S.meaning (shelf_of self.old)) (known L.geometry self.new) (head_of self.new) (S.meaning (shelf_of self.new)) result }
+        ensures layouts { SameLayouts self.old self.new }
         ensures housed { hand_of self.old ≡ None → OnOk result (Housed (known L.geometry self.new) (S.meaning (shelf_of self.new))) }
     {
         let head = self.restarted_head()?.ok_or(Refusal::NoHead)?;
@@ -321,7 +321,8 @@ impl<S: Shelf, L: Layout> Volume<S, L> {
 
     // Every member holds the head, and a write that it is armed for is finished.
     fn go_on(&mut self) -> Result<(), Refused>
-        ensures { Alike S.meaning self.old self.new }
+        ensures alike { Alike S.meaning self.old self.new }
+        ensures ends { LetPass S.meaning L.geometry self.old → WentOn S.meaning L.geometry self.old self.new result }
     {
         let head = self.array.head;
         self.array.spread(&mut self.shelf, &head)?;
