@@ -40,7 +40,7 @@ pub keep_by : {S L : Type 0} (mean : S → Meaning) (place : L → Geometry) (na
     → v.array.head.number < MOST_NUMBER → Going (crew_of place v.array) P (mean v.shelf) (mean shelf) → (x : Result Unit Refused)
     → CheckpointOf mean place v.array.head.source (Moving (name v.array.target) (settled_rows v.array.head.progress) (kept_rows v.array.head.progress + 1)) None (onto v shelf) w x
     → KeepEnds mean place name v w x
-keep_by mean place name v w shelf left saved (Ok x) c = (c.stage.0, search rules, goes_then saved.goes c.stage.1.goes)
+keep_by mean place name v w shelf left saved (Ok x) c = (c.stage.0, goes_then saved.goes c.stage.1.goes, search rules)
 keep_by mean place name v w shelf left saved (Err e) c =
     (c.stage.0, met_later saved.may (OnHeads (mean shelf)) (heads_on_member refl refl (mean shelf)) e (checkpoint_met e left c.stage), search rules)
 
@@ -52,7 +52,7 @@ in_row_of r all row a f n = in_call_of_row r row a f (member_as all a f n)
 keep_rowed : {S L : Type 0} (mean : S → Meaning) (place : L → Geometry) (name : L → Label) (verdict : Option Refusal) (same : Type 0) (v w : Volume S L)
     → verdict ≡ None → (x : Result Unit Refused) → KeepEnds mean place name v w x
     → CallEnds mean place name verdict (λ u. Nothing) Keep same v w (rowed (kept_rows v.array.head.progress) x)
-keep_rowed mean place name verdict same v w none (Ok x) k = record { by = none; goes = k.2; head = k.0; known = k.1; out = refl }
+keep_rowed mean place name verdict same v w none (Ok x) k = record { by = none; goes = k.1; head = k.0; known = k.2; out = refl }
 keep_rowed mean place name verdict same v w none (Err e) k = inr (record {
   by = none;
   met = met_rowed (kept_rows v.array.head.progress) (OnMember reads_and_writes (mean v.shelf)) (InCall Keep (Some (kept_rows v.array.head.progress)) (mean v.shelf))
@@ -72,14 +72,15 @@ err_or d (Ok u) = d
 err_or d (Err e) = e
 
 -- a row that was not placed was met
-pub copy_met : (w : Crew) (P : ℕ → ℕ → List ℕ → Type 0) (a b : Meaning) (row : ℕ) (x : Result Unit Refused) → StageEnds w reads_and_writes P a b x → (e : Refused) → Err e ≡ rowed row x
-    → Met w (InCall Copy (Some row) a) b e
+pub copy_met : (w : Crew) (P : ℕ → ℕ → List ℕ → Type 0) (a b : Meaning) (row : ℕ) (x : Result Unit Refused) → StageEnds w reads_and_writes P a b x
+    → (e : Refused) → Err e ≡ rowed row x → Met w (InCall Copy (Some row) a) b e
 copy_met w P a b row (Ok u) s e is = absurd (both_ways false refl (ap is_ok is))
 copy_met w P a b row (Err d) s e is =
     subst (λ y. Met w (InCall Copy (Some row) a) b y) (sym (ap (err_or d) is))
     (met_rowed row (OnMember reads_and_writes a) (InCall Copy (Some row) a) (in_row_of Copy (operates_all Copy refl refl refl) row a) d s.1)
 
 -- one that was placed was not
-pub copy_goes : (w : Crew) (P : ℕ → ℕ → List ℕ → Type 0) (a b : Meaning) (row : ℕ) (x : Result Unit Refused) → StageEnds w reads_and_writes P a b x → Ok tt ≡ rowed row x → GoesOn w a b
+pub copy_goes : (w : Crew) (P : ℕ → ℕ → List ℕ → Type 0) (a b : Meaning) (row : ℕ) (x : Result Unit Refused) → StageEnds w reads_and_writes P a b x
+    → Ok tt ≡ rowed row x → GoesOn w a b
 copy_goes w P a b row (Ok u) s is = s.1
 copy_goes w P a b row (Err d) s is = absurd (both_ways true (ap is_ok is) refl)

@@ -32,7 +32,8 @@ pub in_call_of_row : (r : Request) (row : ℕ) (a : Meaning) (f : Fault) → OnM
 in_call_of_row r row a f n = record { operation = n.operation; there = n.there; sector = n.sector; row = refl }
 
 -- a call that reads, writes and flushes does all that a stage does
-pub operates_all : (r : Request) → operates r Reads ≡ true → operates r Writes ≡ true → operates r Flush ≡ true → (o : Operation) → reads_and_writes o ≡ true → operates r o ≡ true
+pub operates_all : (r : Request) → operates r Reads ≡ true → operates r Writes ≡ true → operates r Flush ≡ true
+    → (o : Operation) → reads_and_writes o ≡ true → operates r o ≡ true
 operates_all r reads writes flushes Restart e = absurd (both_ways false refl e)
 operates_all r reads writes flushes Reads e = reads
 operates_all r reads writes flushes Writes e = writes

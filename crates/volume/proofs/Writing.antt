@@ -92,8 +92,8 @@ pub same_crew : {L : Type 0} (place : L → Geometry) (x y : Array L) → y.sour
 same_crew place x y source target phase = cc
 
 -- met in a later stage
-pub met_later : {w : Crew} {does : Operation → Bool} {P : ℕ → ℕ → List ℕ → Type 0} {a b c : Meaning} → May P a b → (F : Fault → Type 0) → ((f : Fault) → F f → OnMember does b f)
-    → (e : Refused) → Met w F c e → Met w (OnMember does a) c e
+pub met_later : {w : Crew} {does : Operation → Bool} {P : ℕ → ℕ → List ℕ → Type 0} {a b c : Meaning} → May P a b
+    → (F : Fault → Type 0) → ((f : Fault) → F f → OnMember does b f) → (e : Refused) → Met w F c e → Met w (OnMember does a) c e
 met_later {w} {does} {P} {a} {b} {c} m F names e met = met_as F (OnMember does a) (λ f n. member_same m f (names f n)) e met
 
 -- met at the checkpoint that arms
@@ -174,7 +174,8 @@ parity_met h w s t backup i x a b e shows =
 
 -- carried out after a look
 pub write_ends : {S L : Type 0} (mean : S → Meaning) (place : L → Geometry) (name : L → Label) (verdict : Option Refusal) (same : Type 0) (i : ℕ) (x : List ℕ) (v w : Volume S L) (shelf : S)
-    → verdict ≡ None → Looked (crew_of place v.array) (mean v.shelf) (mean shelf) → Alike mean (onto v shelf) w → (r : Result Unit Refused) → Carried mean place i (onto v shelf) w r
+    → verdict ≡ None → Looked (crew_of place v.array) (mean v.shelf) (mean shelf) → Alike mean (onto v shelf) w
+    → (r : Result Unit Refused) → Carried mean place i (onto v shelf) w r
     → CallEnds mean place name verdict (λ u. Nothing) (Write i x) same v w r
 write_ends mean place name verdict same i x v w shelf none looked alike (Ok u) c =
     record { by = none; goes = goes_then looked.goes c.1; head = c.0; known = alike_after mean place i x (onto v shelf) w alike; out = refl }

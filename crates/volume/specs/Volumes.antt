@@ -136,7 +136,8 @@ Carried mean place i v w (Err e) = HeadLeft (Write i []) v.array.head w.array.he
 -- The next source row was kept, or this was met: nothing has changed but the head.
 abbrev pub KeepEnds : {S L : Type 0} → (S → Meaning) → (L → Geometry) → (L → Label) → (v w : Volume S L) → Result Unit Refused → Type 0
 KeepEnds mean place name v w (Ok x) =
-    HeadAfter Keep (known place v) (name v.array.target) v.array.head w.array.head × (known place w ≡ known_after Keep (known place v) w.array.head) × StaysOn mean place v w
+    HeadAfter Keep (known place v) (name v.array.target) v.array.head w.array.head × StaysOn mean place v w
+    × (known place w ≡ known_after Keep (known place v) w.array.head)
 KeepEnds mean place name v w (Err e) =
     (w.array.head ≡ v.array.head) × Met (crew_of place v.array) (OnMember reads_and_writes (mean v.shelf)) (mean w.shelf) e × (known place w ≡ known place v)
 

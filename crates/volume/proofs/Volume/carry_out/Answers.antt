@@ -41,4 +41,5 @@ returns-clause-ends g c = λ left.
     let w = c.checkpoint_armed-2.new.self in
     let logged : Going (crew_of place v.array) _ (mean v.shelf) (mean c.log.new.shelf) = record { may = c.in_ok-log.ensures.0; goes = c.in_ok-log.ensures.1 } in
     let placed : Going (crew_of place m.array) _ (mean m.shelf) (mean c.apply.new.shelf) = record { may = c.in_ok-apply.ensures.0; goes = c.in_ok-apply.ensures.1 } in
-    disarm_ends mean place c.args.entry.sector v m w c.log.new.shelf c.apply.new.shelf left logged c.in_ok-checkpoint_armed.ensures placed c.checkpoint_armed-2.result c.checkpoint_armed-2.ensures
+    disarm_ends mean place c.args.entry.sector v m w c.log.new.shelf c.apply.new.shelf left logged c.in_ok-checkpoint_armed.ensures placed
+    c.checkpoint_armed-2.result c.checkpoint_armed-2.ensures
