@@ -3,7 +3,7 @@
 #![tactic(auto)]
 
 ghost use Rattle.std.specs.Prelude.{◌≡◌, ◌+◌, ◌*◌, ◌<◌, ◌≤◌, None, length, IfOk, OnErr, OnOk};
-ghost use Rattle.head.specs.declared.TheConstants.{MOST_NUMBER};
+ghost use Rattle.head.specs.declared.TheConstants.{MOST_NUMBER, SLOTS_AT};
 ghost use Rattle.head.specs.Heads.{kept_rows, settled_rows};
 ghost use Rattle.head.specs.declared.state.Progress.TheVariants.{Moving as UnderWay};
 ghost use Rattle.model.specs.Answers.{CreateEnded, OpenEnded};
@@ -202,7 +202,7 @@ impl<S: Shelf, L: Layout> Volume<S, L> {
         ensures verdict { RefusedBy (copy_verdict (known L.geometry self.old) (S.meaning (shelf_of self.old))) (self.new ≡ self.old) result }
         ensures ends { Housed (known L.geometry self.old) (S.meaning (shelf_of self.old)) → CallEnds S.meaning L.geometry L.named (copy_verdict (known L.geometry self.old) (S.meaning (shelf_of self.old))) (λ g. Row (granted_row g)) Copy (self.new ≡ self.old) self.old self.new result }
         ensures housed { StaysHoused S.meaning L.geometry self.old self.new }
-        ensures writes { May (From (3 + (known L.geometry self.old).backup)) (S.meaning (shelf_of self.old)) (S.meaning (shelf_of self.new)) }
+        ensures writes { May (From (SLOTS_AT + (known L.geometry self.old).backup)) (S.meaning (shelf_of self.old)) (S.meaning (shelf_of self.new)) }
     {
         self.judge_copy()?;
         let walk = self.array.walk();
