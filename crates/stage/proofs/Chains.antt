@@ -23,9 +23,9 @@ stage_may w F D (Err e) s = s.0
 
 -- What was reached by one stage, and another after it.
 pub stage_after : {A : Type 0} {w : Crew} (P Q : ℕ → ℕ → List ℕ → Type 0) (F G : Fault → Type 0) {a b c : Meaning} (D E : A → Type 0)
-    → May P a b → GoesOn w a b → ((k s : ℕ) (x : List ℕ) → Q k s x → P k s x) → ((f : Fault) → F f → G f) → ((x : A) → May Q b c → GoesOn w b c → D x → E x)
+    → May P a b → GoesOn w a b → ((k s : ℕ) (x : List ℕ) → Q k s x → P k s x) → ((f : Fault) → F f → G f) → ((x : A) → May Q b c → D x → E x)
     → (r : Result A Refused) → Stage w Q F b c D r → Stage w P G a c E r
-stage_after P Q F G D E m g wider names done (Ok x) s = (may_then m (may_wider wider s.0), goes_then g s.1, done x s.0 s.1 s.2)
+stage_after P Q F G D E m g wider names done (Ok x) s = (may_then m (may_wider wider s.0), goes_then g s.1, done x s.0 s.2)
 stage_after P Q F G D E m g wider names done (Err e) s =
     (may_then m (may_wider wider s.0), record { why = s.1.why; fault = names_as F G names e.fault s.1.fault })
 
