@@ -1,14 +1,15 @@
 // A write, by way of the log.
 ghost use Rattle.std.specs.Prelude.{◌+◌, ◌%◌};
 ghost use Rattle.answer.specs.declared.Operation.TheVariants.{Write};
-ghost use Rattle.head.specs.declared.TheConstants.{LOGGED_DATUM_AT, LOGGED_PARITY_AT, SLOTS_AT};
+ghost use Rattle.head.specs.declared.TheConstants.{SLOTS_AT};
 ghost use Rattle.model.specs.Ends.{Stage};
 ghost use Rattle.model.specs.Faults.{OnSector};
+ghost use Rattle.model.specs.Images.{logged};
 ghost use Rattle.model.specs.May.{AtSector, EitherPlan, From, May, OneFrom};
 ghost use Rattle.model.specs.Readable.{InUse};
 ghost use Rattle.stage.specs.Arrays.{crew_of};
 ghost use Rattle.stage.specs.Done.{WrittenAll};
-ghost use Rattle.stage.specs.Endings.{StageEnds, only_writes, reads_and_writes};
+ghost use Rattle.stage.specs.Endings.{Carries, StageEnds, only_writes, reads_and_writes};
 
 use crate::array::Array;
 use answer::Refused;
@@ -29,7 +30,7 @@ pub struct Entry<'a> {
 impl<L: Layout> Array<L> {
     // Puts a write into the log on every present member. Nothing rests on it until a head is armed for it.
     pub fn log<S: Shelf>(&self, shelf: &mut S, entry: Entry) -> Result<(), Refused>
-        ensures { StageEnds (crew_of L.geometry self.now) only_writes (EitherPlan (AtSector LOGGED_DATUM_AT entry.entry.datum.now) (AtSector LOGGED_PARITY_AT entry.entry.parity.now)) (S.meaning shelf.old) (S.meaning shelf.new) result }
+        ensures { Carries (crew_of L.geometry self.now) only_writes (logged entry.entry.datum.now entry.entry.parity.now) (S.meaning shelf.old) (S.meaning shelf.new) result }
     {
         self.write_all(shelf, LOGGED_DATUM_AT, entry.datum)?;
         self.write_all(shelf, LOGGED_PARITY_AT, entry.parity)?;
