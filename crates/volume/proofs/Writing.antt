@@ -83,8 +83,8 @@ alike_by mean place armed v w (Err e) c = record {
   progress = ap (λ h. h.progress) c.stage.0;
   size = ap (λ h. h.size) c.stage.0;
   backup = ap (λ h. h.backup) c.stage.0;
-  members = elim c.stage.1 [ inl spent ↦ ap (λ a. a.members) spent.same | inr m ↦ m.may.members ];
-  sectors = elim c.stage.1 [ inl spent ↦ ap (λ a. a.sectors) spent.same | inr m ↦ m.may.sectors ];
+  members = elim c.stage.1 [ inl spent ↦ ap (λ a. a.members) spent.same | inr m ↦ m.torn.members ];
+  sectors = elim c.stage.1 [ inl spent ↦ ap (λ a. a.sectors) spent.same | inr m ↦ m.torn.sectors ];
 }
 
 -- its layouts and phase are the same
