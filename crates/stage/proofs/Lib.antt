@@ -7,4 +7,5 @@ pub mod Looks
 pub mod Operations
 pub mod Places
 pub mod Shown
+pub mod Stepping
 pub mod Leading

@@ -1,5 +1,5 @@
 -- Stages that go through the members one by one.
-use Rattle.std.proofs.Common.{◌≡◌, ℕ, ◌<◌, true, List, ◌∙◌, inl, inr, arith}
+use Rattle.std.proofs.Common.{◌≡◌, ℕ, ◌<◌, true, List, inl, inr, arith}
 use Rattle.std.proofs.lemmas.Bool.{both_ways, cases_Bool}
 use Rattle.answer.specs.declared.Operation.{Operation}
 use Rattle.answer.specs.declared.Operation.TheVariants.{Flush, Read, Restart, Write}
@@ -7,7 +7,7 @@ use Rattle.shelf.specs.Meaning.{Meaning}
 use Rattle.model.specs.Crew.{Crew}
 use Rattle.model.specs.Ends.{GoesOn}
 use Rattle.model.specs.Faults.{NamesSector}
-use Rattle.model.specs.May.{AtSector, May}
+use Rattle.model.specs.May.{May}
 
 -- a stage that has come to member i: E holds of each present member below it
 pub record Upto (w : Crew) (P : ℕ → ℕ → List ℕ → Type 0) (E : ℕ → Meaning → Type 0) (a : Meaning) (i : ℕ) (b : Meaning) : Type 0 where
@@ -36,10 +36,6 @@ HoldsIn t c k b = t < b.sectors → b.current k t ≡ c
 
 abbrev pub AllDurable : ℕ → Meaning → Type 0
 AllDurable k b = (s : ℕ) → b.durable k s ≡ b.current k s
-
-pub holds_stays : (t : ℕ) (c : List ℕ) {b d : Meaning} (k : ℕ) → HoldsIn t c k b → May (AtSector t c) b d → HoldsIn t c k d
-holds_stays t c {b} {d} k held m = λ lt. (let same = m.sectors in
-    elim (m.current k t) [ inl e ↦ e ∙ held (omega (arith, lt, same)) | inr p ↦ p.content ])
 
 -- of members that were found absent
 abbrev pub Nobody : ℕ → Meaning → Type 0

@@ -61,8 +61,3 @@ pub record FromLowest (t : ℕ) (new : List ℕ) (b : Meaning) : Type 0 where
 abbrev pub ReadAny : ℕ → Meaning → Option (List ℕ) → Type 0
 ReadAny t b (Some content) = FromLowest t content b
 ReadAny t b None = (k : ℕ) → b.present k ≡ false
-
--- Every member that is there holds the content in sector t, and all that it holds is durable.
-pub record Spread (t : ℕ) (c : List ℕ) (b : Meaning) : Type 0 where
-  pub written : WrittenAll t c b
-  pub flushed : FlushedAll b

@@ -1,13 +1,14 @@
 // Stages over every present member.
 ghost use Rattle.answer.specs.declared.Operation.TheVariants.{Read, Write, Flush};
-ghost use Rattle.std.specs.Prelude.{OnOk};
-ghost use Rattle.head.specs.Heads.{Fits, head_bytes};
-ghost use Rattle.head.specs.declared.TheConstants.{HEAD_AT};
+ghost use Rattle.std.specs.Prelude.{◌≡◌, OnOk};
+ghost use Rattle.head.specs.Heads.{Fits};
 ghost use Rattle.stage.specs.Arrays.{crew_of};
-ghost use Rattle.stage.specs.Done.{FlushedAll, ReadAny, Spread, WrittenAll};
+ghost use Rattle.stage.specs.Done.{FlushedAll, ReadAny, WrittenAll};
 ghost use Rattle.model.specs.Faults.{OnHeads, OnSector};
 ghost use Rattle.model.specs.Ends.{Stage};
+ghost use Rattle.model.specs.Images.{headed};
 ghost use Rattle.model.specs.May.{AtSector, nothing};
+ghost use Rattle.model.specs.Steps.{Passed};
 
 use crate::array::Array;
 use answer::Refused;
@@ -61,7 +62,7 @@ impl<L: Layout> Array<L> {
 
     // Makes a head the last one on every present member.
     pub fn spread<S: Shelf>(&self, shelf: &mut S, head: &Head) -> Result<(), Refused>
-        ensures stage { Stage (crew_of L.geometry self.now) (AtSector HEAD_AT (head_bytes head.now)) (OnHeads (S.meaning shelf.old)) (S.meaning shelf.old) (S.meaning shelf.new) (λ _. Spread HEAD_AT (head_bytes head.now) (S.meaning shelf.new)) result }
+        ensures stage { let a = S.meaning shelf.old in Stage (crew_of L.geometry self.now) (λ k s x. x ≡ headed head.now a.current k s) (OnHeads a) a (S.meaning shelf.new) (λ _. Passed (crew_of L.geometry self.now) (headed head.now) a (S.meaning shelf.new)) result }
         ensures fits { OnOk result (Fits head.now) }
     {
         self.write_all(shelf, HEAD_AT, &head.encode())?;

@@ -1,8 +1,18 @@
-use Rattle.stage.proofs.Chains.{spread_after}
+use Rattle.std.proofs.Common.{◌≡◌, inr, subst}
+use Rattle.model.specs.Ends.{Stage}
+use Rattle.model.specs.Faults.{OnHeads}
+use Rattle.model.specs.Images.{with_sector}
+use Rattle.model.specs.Steps.{Passed}
+use Rattle.stage.specs.Arrays.{crew_of}
+use Rattle.stage.proofs.Stepping.{carried_after, sector_begun, sector_covers}
 use Rattle.stage.proofs.array.Array.spread.Goals as goal
 
 pub returns-clause-stage : goal.returns-clause-stage
 returns-clause-stage g c =
+    let w = crew_of g.L.Layout.geometry c.args.self.now in
+    let a = g.S.Shelf.meaning c.args.shelf.now in
+    let d = g.S.Shelf.meaning c.flush_all.new.shelf in
     let written = c.in_ok-write_all.ensures in
-    spread_after c.encode.result _ (g.S.Shelf.meaning c.args.shelf.now) (g.S.Shelf.meaning c.write_all.new.shelf) (g.S.Shelf.meaning c.flush_all.new.shelf)
-    c.encode.ensures.bytes written.0 written.1 written.2 c.flush_all.result c.flush_all.ensures
+    subst (λ y. Stage w (λ k s x. x ≡ with_sector 0 y a.current k s) (OnHeads a) a d (λ u. Passed w (with_sector 0 y) a d) c.flush_all.result) c.encode.ensures.bytes
+    (carried_after d (OnHeads a) (sector_begun 0 c.encode.result a (g.S.Shelf.meaning c.write_all.new.shelf) written.0 written.1 written.2)
+    (sector_covers 0 c.encode.result a) (λ f n. inr n) c.flush_all.result c.flush_all.ensures)
