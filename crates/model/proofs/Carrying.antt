@@ -1,6 +1,6 @@
 -- Steps that are carried out, and what they make of sectors and of places.
-use Rattle.std.proofs.Common.{◌≡◌, ℕ, ◌+◌, ◌-◌, ◌<◌, ◌≤◌, Bool, true, false, cond, ◌&&◌, ◌⊎◌, ◌==◌, nat_le, nat_lt, List, refl, sym, ap, ◌∙◌, subst, inl, inr, arith}
-use Rattle.std.proofs.lemmas.Bool.{and_from, and_parts, cases_Bool, cases_eq, cond-false, cond-true, eq-eqb, le-leb, leb-true, lt-ltb, ltb-true, ne_eqb}
+use Rattle.std.proofs.Common.{◌≡◌, ℕ, ◌+◌, ◌-◌, ◌<◌, ◌≤◌, Bool, true, ◌&&◌, ◌⊎◌, ◌==◌, nat_le, nat_lt, List, sym, ap, ◌∙◌, inl, inr, arith}
+use Rattle.std.proofs.lemmas.Bool.{and_from, and_parts, cases_Bool, cond-false, cond-true, eq-eqb, le-leb, leb-true, lt-ltb, ne_eqb}
 use Rattle.head.specs.declared.TheConstants.{SLOTS_AT}
 use Rattle.layout.specs.Geometry.{Geometry, Is, place_of}
 use Rattle.layout.specs.Lawful.{Lawful, Owns}
