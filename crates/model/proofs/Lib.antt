@@ -3,6 +3,7 @@ pub mod Mays
 pub mod Readable
 pub mod Runs
 pub mod Seeing
+pub mod Slots
 pub mod WorkedAnswers
 pub mod WorkedCalls
 mod WorkedRuns
