@@ -1,5 +1,6 @@
 pub mod Carrying
 pub mod Mays
+pub mod Plainly
 pub mod Readable
 pub mod Runs
 pub mod Seeing
