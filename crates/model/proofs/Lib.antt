@@ -3,6 +3,8 @@ pub mod Clearing
 pub mod Mays
 pub mod Readable
 pub mod Runs
+pub mod Seeing
+pub mod Slots
 pub mod WorkedAnswers
 pub mod WorkedCalls
 mod WorkedRuns

@@ -6,15 +6,19 @@ use Rattle.model.specs.May.{From, May, OneFrom, nothing}
 pub may_refl : {P : ℕ → ℕ → List ℕ → Type 0} (a : Meaning) → May P a a
 may_refl a = record { members = refl; sectors = refl; off_stays = λ e. e; absent_stays = λ k e. e; current = λ k s. inl refl; durable = λ k s. inl refl }
 
-pub may_wider : {P Q : ℕ → ℕ → List ℕ → Type 0} {a b : Meaning} → ((k s : ℕ) (x : List ℕ) → P k s x → Q k s x) → May P a b → May Q a b
-may_wider {P} {Q} {a} {b} w m = record {
+-- by another plan that allows what the first one does, but for contents that stood there anyway
+pub may_unless : {P Q : ℕ → ℕ → List ℕ → Type 0} {a b : Meaning} → ((k s : ℕ) (x : List ℕ) → P k s x → (x ≡ a.current k s) ⊎ Q k s x) → May P a b → May Q a b
+may_unless {P} {Q} {a} {b} w m = record {
   members = m.members;
   sectors = m.sectors;
   off_stays = m.off_stays;
   absent_stays = m.absent_stays;
-  current = λ k s. elim (m.current k s) [ inl e ↦ inl e | inr p ↦ inr (w k s _ p) ];
-  durable = λ k s. elim (m.durable k s) [ inl e ↦ inl e | inr o ↦ inr (elim o [ inl e ↦ inl e | inr p ↦ inr (w k s _ p) ]) ];
+  current = λ k s. elim (m.current k s) [ inl e ↦ inl e | inr p ↦ w k s _ p ];
+  durable = λ k s. elim (m.durable k s) [ inl e ↦ inl e | inr o ↦ inr (elim o [ inl e ↦ inl e | inr p ↦ w k s _ p ]) ];
 }
+
+pub may_wider : {P Q : ℕ → ℕ → List ℕ → Type 0} {a b : Meaning} → ((k s : ℕ) (x : List ℕ) → P k s x → Q k s x) → May P a b → May Q a b
+may_wider w m = may_unless (λ k s x p. inr (w k s x p)) m
 
 pub may_then : {P : ℕ → ℕ → List ℕ → Type 0} {a b c : Meaning} → May P a b → May P b c → May P a c
 may_then {P} {a} {b} {c} m n =

@@ -1,13 +1,13 @@
 -- Steps of the worked examples.
-use Rattle.std.proofs.Common.{◌≡◌, ℕ, Bool, true, false, cond, List, [], ◌∷◌, ◌⊎◌, inl, inr, refl}
+use Rattle.std.proofs.Common.{◌≡◌, ℕ, Bool, true, false, cond, List, ◌⊎◌, inl, inr, refl}
 use Rattle.shelf.specs.Meaning.{Meaning, Restarts}
 use Rattle.layout.specs.Geometry.{Geometry}
 use Rattle.model.specs.Crew.{Crew, enough, enough_by}
 use Rattle.model.specs.May.{May, nothing}
 use Rattle.model.specs.declared.phase.Phase.{Phase}
 use Rattle.model.specs.declared.phase.Phase.TheVariants.{Before, Moving, After, Shut}
-use Rattle.model.specs.Steps.{Looked, Passed, SeenBy, Step, Through, Torn}
-use Rattle.model.specs.WorkedCalls.{carried, cut_in, passed_by}
+use Rattle.model.specs.Steps.{Looked, Passed, SeenBy, Step, Torn}
+use Rattle.model.specs.WorkedCalls.{cut_in, passed_by}
 
 pub same : (a : Meaning) → May nothing a a
 same a = record { members = refl; sectors = refl; off_stays = λ e. e; absent_stays = λ k e. e; current = λ k s. inl refl; durable = λ k s. inl refl }
@@ -29,10 +29,6 @@ passed w f a = record {
   current = λ k s here lt. refl;
   durable = λ k s here. refl;
 }
-
-pub through : (w : Crew) (fs : List Step) (a : Meaning) → Through w fs a (carried fs a)
-through w [] a = refl
-through w (f ∷ fs) a = (passed_by f a, passed w f a, through w fs (passed_by f a))
 
 either : (c : Bool) (x y : List ℕ) → (cond c x y ≡ y) ⊎ (cond c x y ≡ x)
 either true x y = inr refl

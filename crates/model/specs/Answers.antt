@@ -179,8 +179,7 @@ pub record OpenDone (sl tl : Label) (s t : Geometry) (a : Meaning) (u : Volume) 
 
 pub record OpenCut (sl tl : Label) (s t : Geometry) (a b : Meaning) (e : Refused) : Type 0 where
   pub head : Head
-  pub last : Head
-  pub torn : OpenTorn sl tl s t a b head last
+  pub torn : OpenTorn sl tl s t a b head
   pub met : Met (opened_crew s t head) (InCall Open None torn.mid) b e
 
 abbrev pub OpenCame : (sl tl : Label) → (s t : Geometry) → (a : Meaning) → (u : Volume) → (k : Head) → (b : Meaning) → Result Unit Refused → Type 0

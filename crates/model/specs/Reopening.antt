@@ -5,14 +5,14 @@ use Rattle.layout.specs.Geometry.{Geometry}
 use Rattle.layout.specs.declared.label.Label.{Label}
 use Rattle.shelf.specs.Meaning.{Meaning}
 use Rattle.head.specs.Checkpoints.{Next}
-use Rattle.head.specs.Heads.{Fits}
 use Rattle.head.specs.declared.state.Head.{Head}
 use Rattle.model.specs.Crew.{Crew, crew}
 use Rattle.model.specs.Images.{applied, headed}
 use Rattle.model.specs.Knowing.{Volume, phase_by, volume}
 use Rattle.model.specs.Opening.{Searched, head_verdict}
 use Rattle.model.specs.Reading.{common, home_by}
-use Rattle.model.specs.Steps.{SeenBy, Step, Through, TornIn}
+use Rattle.model.specs.Steps.{Part, SeenBy, Through, TornIn}
+use Rattle.model.specs.Steps.Part.{Checkpoint, Plain}
 
 -- the volume under a head, with no row in hand
 abbrev pub opened_volume : (source target : Geometry) → Head → Volume
@@ -27,37 +27,35 @@ Disarmed None h k = k ≡ h
 Disarmed (Some i) h k = Next h h.source h.progress None k
 
 -- An armed head is spread, what its log holds goes to the home of the logged sector, and the head is disarmed.
-pub record RedoSteps (s t : Geometry) (i : ℕ) (h : Head) (a b : Meaning) (fs : List Step) (k : Head) : Type 0 where
+pub record RedoParts (s t : Geometry) (i : ℕ) (h : Head) (a b : Meaning) (ps : List Part) : Type 0 where
   pub datum : List ℕ
   pub parity : List ℕ
   pub logged_datum : SeenBy (opened_crew s t h) a b (λ m. common m LOGGED_DATUM_AT) datum
   pub logged_parity : SeenBy (opened_crew s t h) a b (λ m. common m LOGGED_PARITY_AT) parity
-  pub disarms : Next h h.source h.progress None k
-  pub fits : Fits k
-  pub steps : fs ≡ headed h ∷ (λ f. applied (home_by (opened_volume s t h) i) s t h.backup i datum parity f) ∷ headed k ∷ []
+  pub parts : ps ≡ Plain (headed h) ∷ Plain (λ f. applied (home_by (opened_volume s t h) i) s t h.backup i datum parity f) ∷ Checkpoint h.source h.progress None ∷ []
 
--- the steps of an open, in their order, and the last head after it
-abbrev pub OpenSteps : Option ℕ → (s t : Geometry) → Head → (a b : Meaning) → List Step → Head → Type 0
-OpenSteps None s t h a b fs k = (k ≡ h) × (fs ≡ headed h ∷ [])
-OpenSteps (Some i) s t h a b fs k = RedoSteps s t i h a b fs k
+-- the parts of an open, in their order
+abbrev pub OpenParts : Option ℕ → (s t : Geometry) → Head → (a b : Meaning) → List Part → Type 0
+OpenParts None s t h a b ps = ps ≡ Plain (headed h) ∷ []
+OpenParts (Some i) s t h a b ps = RedoParts s t i h a b ps
 
 -- The shelf was restarted and searched; h leads on what was found, and its verdict, told on that, is none.
 pub record TakenUp (sl tl : Label) (s t : Geometry) (a mid : Meaning) (h : Head) : Type 0 where
   pub found : Searched a mid (Some h)
   pub verdict : head_verdict h mid sl tl s t ≡ None
 
--- done: the steps follow from there
+-- done: the parts follow from there
 pub record OpensTo (sl tl : Label) (s t : Geometry) (a b : Meaning) (h k : Head) : Type 0 where
   pub mid : Meaning
   pub taken : TakenUp sl tl s t a mid h
-  pub list : List Step
-  pub steps : OpenSteps h.armed s t h mid b list k
-  pub through : Through (opened_crew s t h) list mid b
+  pub list : List Part
+  pub parts : OpenParts h.armed s t h mid b list
+  pub through : Through (opened_crew s t h) list h mid k b
 
--- the same, with one of its steps cut
-pub record OpenTorn (sl tl : Label) (s t : Geometry) (a b : Meaning) (h k : Head) : Type 0 where
+-- the same, cut in one of them
+pub record OpenTorn (sl tl : Label) (s t : Geometry) (a b : Meaning) (h : Head) : Type 0 where
   pub mid : Meaning
   pub taken : TakenUp sl tl s t a mid h
-  pub list : List Step
-  pub steps : OpenSteps h.armed s t h mid b list k
-  pub torn : TornIn (opened_crew s t h) list mid b
+  pub list : List Part
+  pub parts : OpenParts h.armed s t h mid b list
+  pub torn : TornIn (opened_crew s t h) list h mid b

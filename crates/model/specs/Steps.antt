@@ -1,10 +1,15 @@
--- The steps of calls. A step makes one image of another; it is written, and durable before the next one begins.
-use Rattle.std.specs.Prelude.{◌≡◌, ℕ, ◌<◌, Bool, true, ◌⊎◌, List, [], ◌∷◌}
+-- The parts of calls. A step makes one image of another; it is written, and durable before the next part begins. A checkpoint is the step of the next head.
+use Rattle.std.specs.Prelude.{◌≡◌, ℕ, ◌<◌, Bool, true, ◌⊎◌, List, [], ◌∷◌, Option}
+use Rattle.layout.specs.declared.label.Label.{Label}
+use Rattle.head.specs.Checkpoints.{Next}
+use Rattle.head.specs.Heads.{Fits}
+use Rattle.head.specs.declared.state.Head.{Head}
+use Rattle.head.specs.declared.state.Progress.{Progress}
 use Rattle.shelf.specs.Meaning.{Meaning}
 use Rattle.model.specs.Crew.{Crew, enough}
 use Rattle.model.specs.Ends.{GoesOn}
 use Rattle.model.specs.May.{May, nothing}
-use Rattle.model.specs.Images.{Image}
+use Rattle.model.specs.Images.{Image, headed}
 
 abbrev pub Step : Type 0
 Step = Image → Image
@@ -41,12 +46,24 @@ pub record Passed (w : Crew) (f : Step) (a b : Meaning) : Type 0 where
 abbrev pub Torn : Step → Meaning → Meaning → Type 0
 Torn f a b = May (λ k s x. x ≡ f a.current k s) a b
 
--- one step after another
-abbrev pub Through : Crew → List Step → Meaning → Meaning → Type 0
-Through w [] a b = b ≡ a
-Through w (f ∷ fs) a b = (m : Meaning) × Passed w f a m × Through w fs m b
+-- A part of a call: a step, or a checkpoint, told by what its head says of source, progress and the sector that it is armed for.
+pub data Part : Type 0 where
+  Plain : (step : Step) → Part
+  Checkpoint : (source : Label) → (progress : Progress) → (armed : Option ℕ) → Part
+
+-- the head of a checkpoint is the next one, and its bytes keep all of it
+pub record Follows (h : Head) (source : Label) (progress : Progress) (armed : Option ℕ) (k : Head) : Type 0 where
+  pub next : Next h source progress armed k
+  pub fits : Fits k
+
+-- one part after another, from a shelf and the last head to those that they leave
+abbrev pub Through : Crew → List Part → (h : Head) → (a : Meaning) → (k : Head) → (b : Meaning) → Type 0
+Through w [] h a k b = (k ≡ h) × (b ≡ a)
+Through w (Plain f ∷ ps) h a k b = (m : Meaning) × Passed w f a m × Through w ps h m k b
+Through w (Checkpoint s p i ∷ ps) h a k b = (j : Head) × (m : Meaning) × Follows h s p i j × Passed w (headed j) a m × Through w ps j m k b
 
 -- cut in one of them, those before it carried out
-abbrev pub TornIn : Crew → List Step → Meaning → Meaning → Type 0
-TornIn w [] a b = ⊥
-TornIn w (f ∷ fs) a b = Torn f a b ⊎ ((m : Meaning) × Passed w f a m × TornIn w fs m b)
+abbrev pub TornIn : Crew → List Part → (h : Head) → (a b : Meaning) → Type 0
+TornIn w [] h a b = ⊥
+TornIn w (Plain f ∷ ps) h a b = Torn f a b ⊎ ((m : Meaning) × Passed w f a m × TornIn w ps h m b)
+TornIn w (Checkpoint s p i ∷ ps) h a b = (j : Head) × Follows h s p i j × (Torn (headed j) a b ⊎ ((m : Meaning) × Passed w (headed j) a m × TornIn w ps j m b))

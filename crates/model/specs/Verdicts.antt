@@ -150,20 +150,11 @@ Judged v (Err e) = v ≡ Some e
 abbrev pub RefusedBy : {A : Type 0} → Option Refusal → Type 0 → Result A Refused → Type 0
 RefusedBy v same r = (k : Refusal) → v ≡ Some k → (r ≡ Err (record { refusal = k; fault = None })) × same
 
--- a volume that is not shut
-abbrev pub NotShut : Phase → Type 0
-NotShut (Shut why) = ⊥
-NotShut phase = Unit {0}
-
 -- A create or open that was refused shuts its volume, whose calls then answer that power is lost, if that was the reason, and else that
 -- this is no phase for them.
 abbrev pub shut_for : Refusal → Refusal
 shut_for PowerLost = PowerLost
 shut_for why = WrongPhase
-
-abbrev pub ShutBy : Phase → Result Unit Refused → Type 0
-ShutBy phase (Ok x) = NotShut phase
-ShutBy phase (Err e) = phase ≡ Shut (shut_for e.refusal)
 
 abbrev pub ShutsBy : Phase → Phase → Result Unit Refused → Type 0
 ShutsBy old new (Ok x) = new ≡ old

@@ -11,7 +11,7 @@ use Rattle.model.specs.Crew.{crew}
 use Rattle.model.specs.declared.phase.Phase.TheVariants.{Before, Moving}
 use Rattle.model.specs.declared.request.Request.TheVariants.{Read, Write, Begin, Keep, Copy, Settle, HandBack, Finish}
 use Rattle.model.specs.Contents.{padded}
-use Rattle.model.specs.Effects.{CreateTorn, CreatedBy, DoneBy, MetBy, create_steps, known_after, verdict_of}
+use Rattle.model.specs.Effects.{CreateTorn, CreatedBy, DoneBy, MetBy, known_after, verdict_of}
 use Rattle.model.specs.Images.{applied, created_over, fresh_row, headed, logged, saved, with_places}
 use Rattle.model.specs.Knowing.{Volume}
 use Rattle.model.specs.Reading.{content_of, parity_with}
@@ -165,12 +165,12 @@ pub record KnownExamples : Type 0 where
   pub admitted : verdict_of Keep (walking_volume 0) (label 1) whole ≡ None
 
 pub record MakingExamples : Type 0 where
-  pub created : CreatedBy mirror mirror_label 2 1 whole (carried (create_steps mirror 1 first) whole) first
+  pub created : CreatedBy mirror mirror_label 2 1 whole (carried (clear_places ∷ headed first ∷ []) whole) first
   pub create_torn : CreateTorn mirror mirror_label 2 1 whole (cut_in clear_places on_first whole)
   pub create_without_zeros : Passed (crew Before mirror mirror) clear_places whole whole → ⊥
   pub opened : OpensTo mirror_label (label 1) mirror stripe (under first) (passed_by (headed first) (under first)) first first
   pub redone : OpensTo mirror_label (label 1) mirror stripe logged_shelf (carried redo_steps logged_shelf) armed disarmed
-  pub redo_torn : OpenTorn mirror_label (label 1) mirror stripe logged_shelf (cut_in write_home on_first (passed_by (headed armed) logged_shelf)) armed disarmed
+  pub redo_torn : OpenTorn mirror_label (label 1) mirror stripe logged_shelf (cut_in write_home on_first (passed_by (headed armed) logged_shelf)) armed
   -- another head leads, or the write in the log is not carried out
   pub other_head : OpensTo mirror_label (label 1) mirror stripe (under first) (under first) disarmed disarmed → ⊥
   pub not_redone : Passed (crew Before mirror stripe) write_home logged_shelf logged_shelf → ⊥

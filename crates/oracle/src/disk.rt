@@ -1,6 +1,7 @@
 // The flat disk: what a volume is to show, kept apart from any shelf.
 ghost use Rattle.std.specs.Prelude.{◌≡◌, ◌+◌, ◌^◌, ◌<◌, replicate, IfOk};
 ghost use Rattle.model.specs.Contents.{padded};
+ghost use Rattle.sector.specs.declared.TheConstants.{SECTOR};
 ghost use Rattle.model.specs.Disks.{SameDisk, created, granted, opened, refused, released, disk_written};
 ghost use Rattle.oracle.specs.Showing.{shown};
 

@@ -116,7 +116,7 @@ pub slots : (backup r : ℕ) (c : List ℕ) (k s : ℕ) (x : List ℕ) → r < b
 slots backup r c k s x lt p = (let e = p.sector in record { sector = omega (arith, e); slot = omega (arith, e, lt) })
 
 -- what can be had can be had while members are enough
-home_kept : {P : ℕ → ℕ → List ℕ → Type 0} {w : Crew} {a b : Meaning} (h : Home) (s t : Geometry) (backup i : ℕ) → May P a b → GoesOn w a b
+pub home_kept : {P : ℕ → ℕ → List ℕ → Type 0} {w : Crew} {a b : Meaning} (h : Home) (s t : Geometry) (backup i : ℕ) → May P a b → GoesOn w a b
     → HomeHas h w s t backup i a → HomeHas h w s t backup i b
 home_kept Source s t backup i m go has = record { of = use_kept m go s backup has.of; below = has.below }
 home_kept Target s t backup i m go has = record { of = use_kept m go t backup has.of; below = has.below }

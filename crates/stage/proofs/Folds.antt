@@ -85,7 +85,7 @@ pub record Alike (skip tell : ℕ → Bool) (f h : ℕ → List ℕ) (n : ℕ) :
   pub skips : (k : ℕ) → k < n → skip k ≡ tell k
   pub gives : (k : ℕ) → k < n → tell k ≡ false → f k ≡ h k
 
-gathered_alike : (skip tell : ℕ → Bool) (f h : ℕ → List ℕ) (n : ℕ) → Alike skip tell f h n → gathered skip f n ≡ gathered tell h n
+pub gathered_alike : (skip tell : ℕ → Bool) (f h : ℕ → List ℕ) (n : ℕ) → Alike skip tell f h n → gathered skip f n ≡ gathered tell h n
 gathered_alike skip tell f h zero e = refl
 gathered_alike skip tell f h (suc n) e =
     let before : gathered skip f n ≡ gathered tell h n =

@@ -1,12 +1,14 @@
 pub mod Chains
 pub mod Clearing
 pub mod Crews
+pub mod Earlier
 pub mod Endings
 pub mod Folds
 pub mod Loops
 pub mod Looks
 pub mod Operations
 pub mod Places
+pub mod Saving
 pub mod Shown
 pub mod Stepping
 pub mod Leading

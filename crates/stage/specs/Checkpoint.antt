@@ -4,6 +4,7 @@ use Rattle.answer.specs.declared.Refusal.TheVariants.{NumbersSpent}
 use Rattle.answer.specs.declared.Refused.{Refused}
 use Rattle.layout.specs.declared.label.Label.{Label}
 use Rattle.head.specs.Checkpoints.{Next}
+use Rattle.head.specs.Heads.{Fits}
 use Rattle.head.specs.declared.state.Head.{Head}
 use Rattle.head.specs.declared.state.Progress.{Progress}
 use Rattle.shelf.specs.Meaning.{Meaning}
@@ -24,6 +25,7 @@ pub record Spent (h : Head) (a b : Meaning) (e : Refused) : Type 0 where
 pub record Midway (w : Crew) (h : Head) (s : Label) (p : Progress) (i : Option ℕ) (a b : Meaning) (e : Refused) : Type 0 where
   pub head : Head
   pub next : Next h s p i head
+  pub fits : Fits head
   pub torn : Torn (headed head) a b
   pub met : Met w (OnHeads a) b e
 

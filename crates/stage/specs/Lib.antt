@@ -5,4 +5,5 @@ pub mod Done
 pub mod Endings
 pub mod Looks
 pub mod Places
+pub mod Rows
 pub mod Walks

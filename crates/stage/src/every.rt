@@ -1,6 +1,6 @@
 // Stages over every present member.
 ghost use Rattle.answer.specs.declared.Operation.TheVariants.{Read, Write, Flush};
-ghost use Rattle.std.specs.Prelude.{◌≡◌, OnOk};
+ghost use Rattle.std.specs.Prelude.{◌≡◌};
 ghost use Rattle.head.specs.Heads.{Fits};
 ghost use Rattle.stage.specs.Arrays.{crew_of};
 ghost use Rattle.stage.specs.Done.{FlushedAll, ReadAny, WrittenAll};
@@ -63,7 +63,7 @@ impl<L: Layout> Array<L> {
     // Makes a head the last one on every present member.
     pub fn spread<S: Shelf>(&self, shelf: &mut S, head: &Head) -> Result<(), Refused>
         ensures stage { let a = S.meaning shelf.old in Stage (crew_of L.geometry self.now) (λ k s x. x ≡ headed head.now a.current k s) (OnHeads a) a (S.meaning shelf.new) (λ _. Passed (crew_of L.geometry self.now) (headed head.now) a (S.meaning shelf.new)) result }
-        ensures fits { OnOk result (Fits head.now) }
+        ensures fits { Fits head.now }
     {
         self.write_all(shelf, HEAD_AT, &head.encode())?;
         self.flush_all(shelf)

@@ -9,7 +9,7 @@ use sector::zeros;
 use shelf::{Failure, Shelf};
 
 // The head that a member holds, if it is there and holds one.
-fn head_of<S: Shelf>(shelf: &mut S, member: u64) -> Result<Option<Head>, Refused>
+fn read_head<S: Shelf>(shelf: &mut S, member: u64) -> Result<Option<Head>, Refused>
     ensures read { ReadHead member (S.meaning shelf.old) (S.meaning shelf.new) result }
     ensures others { Others member (S.meaning shelf.old) (S.meaning shelf.new) }
 {
@@ -33,7 +33,7 @@ pub fn leading_head<S: Shelf>(shelf: &mut S) -> Result<Option<Head>, Refused>
 {
     let mut found = None;
     for member in 0..shelf.members() {
-        found = leading(found, head_of(shelf, member)?);
+        found = leading(found, read_head(shelf, member)?);
     }
     Ok(found)
 }

@@ -1,14 +1,15 @@
 // Whole rows: saved into the backup slots, placed in the target, or cleared.
-ghost use Rattle.std.specs.Prelude.{◌≡◌, ℕ, ◌+◌, ◌≤◌, replicate};
+ghost use Rattle.std.specs.Prelude.{◌≡◌, ℕ, ◌+◌, ◌<◌, ◌≤◌, replicate, Ok, None};
 ghost use Rattle.sector.specs.declared.TheConstants.{SECTOR};
 ghost use Rattle.head.specs.declared.TheConstants.{SLOTS_AT};
 ghost use Rattle.model.specs.Ends.{Stage};
 ghost use Rattle.model.specs.Images.{created_over};
 ghost use Rattle.model.specs.May.{From, InSlots, May, nothing};
-ghost use Rattle.stage.specs.Arrays.{crew_of};
+ghost use Rattle.stage.specs.Arrays.{crew_of, volume_on};
 ghost use Rattle.stage.specs.Endings.{Carries, HasVolume, MadeAt, OnMember, StageEnds, only_writes, reads_and_writes};
 ghost use Rattle.stage.specs.Looks.{HomeHas, homes_of};
 ghost use Rattle.stage.specs.Places.{AtPlace, PlaceHolds};
+ghost use Rattle.stage.specs.Rows.{Savable, SavesBy, SavesSector};
 
 use crate::array::Array;
 use answer::Refused;
@@ -19,11 +20,16 @@ use shelf::Shelf;
 use std::ops::Range;
 
 impl<L: Layout> Array<L> {
-    // Copies sectors below the size into their backup slots, and persists them.
+    // Copies sectors below the size into their backup slots, and persists them. Where there are none, nothing is done.
     pub fn save<S: Shelf>(&self, shelf: &mut S, sectors: Range<u64>) -> Result<(), Refused>
         ensures may { May (InSlots self.now.head.backup) (S.meaning shelf.old) (S.meaning shelf.new) }
         ensures ends { HasVolume L.geometry self.now (S.meaning shelf.old) → sectors.end ≤ self.now.head.size → StageEnds (crew_of L.geometry self.now) reads_and_writes (InSlots self.now.head.backup) (S.meaning shelf.old) (S.meaning shelf.new) result }
+        ensures saves { HasVolume L.geometry self.now (S.meaning shelf.old) → sectors.end ≤ self.now.head.size → Savable (volume_on L.geometry self.now None) sectors.start sectors.end → sectors.start < sectors.end → SavesBy (volume_on L.geometry self.now None) sectors.start sectors.end (S.meaning shelf.old) (S.meaning shelf.new) result }
+        ensures none { sectors.end ≤ sectors.start → (S.meaning shelf.new ≡ S.meaning shelf.old) × (result ≡ Ok tt) }
     {
+        if sectors.is_empty() {
+            return Ok(());
+        }
         for sector in sectors.start..sectors.end {
             self.save_sector(shelf, sector)?;
         }
@@ -33,7 +39,7 @@ impl<L: Layout> Array<L> {
     // Copies a sector into its backup slot.
     fn save_sector<S: Shelf>(&self, shelf: &mut S, sector: u64) -> Result<(), Refused>
         ensures may { May (InSlots self.now.head.backup) (S.meaning shelf.old) (S.meaning shelf.new) }
-        ensures ends { HomeHas (homes_of L.geometry self.now sector) (crew_of L.geometry self.now) (L.geometry self.now.source) (L.geometry self.now.target) self.now.head.backup sector (S.meaning shelf.old) → StageEnds (crew_of L.geometry self.now) reads_and_writes (InSlots self.now.head.backup) (S.meaning shelf.old) (S.meaning shelf.new) result }
+        ensures saves { HomeHas (homes_of L.geometry self.now sector) (crew_of L.geometry self.now) (L.geometry self.now.source) (L.geometry self.now.target) self.now.head.backup sector (S.meaning shelf.old) → SavesSector (volume_on L.geometry self.now None) sector (S.meaning shelf.old) (S.meaning shelf.new) result }
     {
         let content = self.show(shelf, sector)?;
         self.write_slot(shelf, sector, &content)

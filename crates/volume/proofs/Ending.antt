@@ -1,8 +1,9 @@
 -- How calls end that are one checkpoint.
-use Rattle.std.proofs.Common.{◌≡◌, ℕ, ◌+◌, ◌<◌, true, false, Some, None, Ok, Err, Option, Result, inl, inr, refl, sym, ap, ◌∙◌, subst, rules, arith}
+use Rattle.std.proofs.Common.{◌≡◌, ℕ, ◌+◌, ◌<◌, Bool, true, false, Some, None, Ok, Err, Option, Result, inl, inr, refl, sym, ap, ◌∙◌, subst, rules, arith}
 use Rattle.std.specs.Option.{option_map}
 use Rattle.answer.specs.Faults.{fault_in_row, in_row}
 use Rattle.answer.specs.declared.Fault.{Fault}
+use Rattle.answer.specs.declared.Operation.{Operation}
 use Rattle.answer.specs.declared.Operation.TheVariants.{Flush, Write as Writes}
 use Rattle.answer.specs.declared.Refusal.{Refusal}
 use Rattle.answer.specs.declared.Refused.{Refused}
@@ -23,13 +24,19 @@ use Rattle.model.specs.Verdicts.{emptied}
 use Rattle.model.specs.declared.request.Request.{Request}
 use Rattle.model.specs.declared.request.Request.TheVariants.{Settle}
 use Rattle.stage.specs.Checkpoint.{Checkpointed}
+use Rattle.stage.specs.Endings.{OnMember}
+use Rattle.stage.proofs.Endings.{on_sector}
 use Rattle.volume.specs.declared.Volume.{Volume}
 use Rattle.volume.specs.Volumes.{CallEnds, CheckpointOf, OnlyHand, rowed}
+use Rattle.volume.proofs.Looking.{in_call, in_call_of_row}
 
--- a head on its way is an operation of a call that writes and flushes
+-- a head on its way is written and flushed on members
+pub heads_on_member : {does : Operation → Bool} → does Writes ≡ true → does Flush ≡ true → (a : Meaning) (f : Fault) → OnHeads a f → OnMember does a f
+heads_on_member writes flushes a f n = elim n [ inl p ↦ on_sector Writes writes a 0 f p | inr p ↦ on_sector Flush flushes a 0 f p ]
+
+-- so it is an operation of a call that writes and flushes
 pub heads_in_call : (r : Request) → operates r Writes ≡ true → operates r Flush ≡ true → (a : Meaning) (f : Fault) → OnHeads a f → InCall r None a f
-heads_in_call r writes flushes a f (inl n) = record { operation = subst (λ o. operates r o ≡ true) (sym n.operation) writes; there = n.there; row = n.row }
-heads_in_call r writes flushes a f (inr n) = record { operation = subst (λ o. operates r o ≡ true) (sym n.operation) flushes; there = n.there; row = n.row }
+heads_in_call r writes flushes a f n = in_call r a f (heads_on_member writes flushes a f n)
 
 -- names of a fault, and of the same fault with a row
 names_rowed : (row : ℕ) (F G : Fault → Type 0) → ((f : Fault) → F f → G (fault_in_row row f)) → (o : Option Fault) → Names F o → Names G (option_map (fault_in_row row) o)
@@ -75,7 +82,7 @@ settle_by mean place name verdict same row v w none left (Ok x) c = search rules
 settle_by mean place name verdict same row v w none left (Err e) c = inr (record {
   by = none;
   met = met_rowed (settled_rows v.array.head.progress) (OnHeads (mean v.shelf)) (InCall (Settle row) (Some (settled_rows v.array.head.progress)) (mean v.shelf))
-      (λ f n. (let here = heads_in_call (Settle row) refl refl (mean v.shelf) f n in record { operation = here.operation; there = here.there; row = refl })) e
+      (λ f n. in_call_of_row (Settle row) (settled_rows v.array.head.progress) (mean v.shelf) f (heads_on_member refl refl (mean v.shelf) f n)) e
       (checkpoint_met e left c.stage);
   head = c.stage.0;
   known = search rules;

@@ -24,7 +24,7 @@ abbrev found_with : Geometry → Geometry → Progress → (number size backup :
 found_with s t progress number size backup =
     record { crew = crew (phase_by progress) s t; number = number; size = size; backup = backup; settled = settled_rows progress; kept = kept_rows progress; hand = None }
 
-fits_room : (v : Known) (a : Meaning) (g : Geometry) → fits a g v.backup v.size ≡ true → HasRoom v a g
+pub fits_room : (v : Known) (a : Meaning) (g : Geometry) → fits a g v.backup v.size ≡ true → HasRoom v a g
 fits_room v a g e =
     let rest = both_right (shelf_in_limits a) _ e in
     let deeper = both_right (nat_le g.members a.members) _ rest in

@@ -5,7 +5,6 @@ use Rattle.std.specs.Result.{is_ok}
 use Rattle.answer.specs.Faults.{fault_in_row}
 use Rattle.answer.specs.declared.Fault.{Fault}
 use Rattle.answer.specs.declared.Operation.{Operation}
-use Rattle.answer.specs.declared.Operation.TheVariants.{Flush, Read as Reads, Restart, Write as Writes}
 use Rattle.answer.specs.declared.Refusal.{Refusal}
 use Rattle.answer.specs.declared.Refused.{Refused}
 use Rattle.layout.specs.Geometry.{Geometry}
@@ -16,18 +15,21 @@ use Rattle.head.specs.declared.state.Progress.TheVariants.{Moving}
 use Rattle.shelf.specs.Meaning.{Meaning}
 use Rattle.model.specs.Answers.{InCall, operates}
 use Rattle.model.specs.Crew.{Crew, enough}
-use Rattle.model.specs.Ends.{Met}
+use Rattle.model.specs.Ends.{GoesOn, Met}
 use Rattle.model.specs.Faults.{OnHeads}
 use Rattle.model.specs.Handed.Handed.{Nothing}
-use Rattle.model.specs.May.{May}
 use Rattle.model.specs.declared.request.Request.{Request}
 use Rattle.model.specs.declared.request.Request.TheVariants.{Copy, Keep}
-use Rattle.stage.specs.Endings.{HasVolume, OnMember, StageEnds, of_member}
+use Rattle.stage.specs.Arrays.{crew_of}
+use Rattle.stage.specs.Endings.{HasVolume, OnMember, StageEnds, reads_and_writes}
+use Rattle.stage.proofs.Endings.{Going, member_as}
+use Rattle.stage.proofs.Loops.{goes_then}
 use Rattle.volume.specs.declared.Volume.{Volume}
 use Rattle.volume.specs.Volumes.{CallEnds, CheckpointOf, Housed, KeepEnds, known, rowed}
-use Rattle.volume.proofs.Ending.{checkpoint_met, met_rowed}
+use Rattle.volume.proofs.Ending.{checkpoint_met, heads_on_member, met_rowed}
 use Rattle.volume.proofs.Housing.{home_has}
-use Rattle.volume.proofs.Writing.{heads_on_member, met_later, onto}
+use Rattle.volume.proofs.Looking.{in_call_of_row, operates_all}
+use Rattle.volume.proofs.Writing.{met_later, onto}
 
 pub has_volume : {S L : Type 0} (mean : S → Meaning) (place : L → Geometry) (v : Volume S L) → Housed (known place v) (mean v.shelf) → enough (known place v).crew (mean v.shelf) ≡ true
     → HasVolume place v.array (mean v.shelf)
@@ -35,31 +37,26 @@ has_volume mean place v housed here = record { each = λ i below. home_has (know
 
 -- the slots were written, and then a checkpoint
 pub keep_by : {S L : Type 0} (mean : S → Meaning) (place : L → Geometry) (name : L → Label) (v w : Volume S L) (shelf : S) {P : ℕ → ℕ → List ℕ → Type 0}
-    → v.array.head.number < MOST_NUMBER → May P (mean v.shelf) (mean shelf) → (x : Result Unit Refused)
+    → v.array.head.number < MOST_NUMBER → Going (crew_of place v.array) P (mean v.shelf) (mean shelf) → (x : Result Unit Refused)
     → CheckpointOf mean place v.array.head.source (Moving (name v.array.target) (settled_rows v.array.head.progress) (kept_rows v.array.head.progress + 1)) None (onto v shelf) w x
     → KeepEnds mean place name v w x
-keep_by mean place name v w shelf left m (Ok x) c = (c.stage.0, search rules)
-keep_by mean place name v w shelf left m (Err e) c = (c.stage.0, met_later m (OnHeads (mean shelf)) (heads_on_member (mean shelf)) e (checkpoint_met e left c.stage), search rules)
+keep_by mean place name v w shelf left saved (Ok x) c = (c.stage.0, goes_then saved.goes c.stage.1.goes, search rules)
+keep_by mean place name v w shelf left saved (Err e) c =
+    (c.stage.0, met_later saved.may (OnHeads (mean shelf)) (heads_on_member refl refl (mean shelf)) e (checkpoint_met e left c.stage), search rules)
 
--- a copy and a keep read, write and flush
-of_walk : (r : Request) → operates r Reads ≡ true → operates r Writes ≡ true → operates r Flush ≡ true → (o : Operation) → of_member o ≡ true → operates r o ≡ true
-of_walk r reads writes flushes Restart e = absurd (both_ways false refl e)
-of_walk r reads writes flushes Reads e = reads
-of_walk r reads writes flushes Writes e = writes
-of_walk r reads writes flushes Flush e = flushes
-
-member_in_row : (r : Request) → operates r Reads ≡ true → operates r Writes ≡ true → operates r Flush ≡ true → (row : ℕ) (a : Meaning) (f : Fault) → OnMember a f
+-- an operation of a keep or a copy, with its row
+in_row_of : (r : Request) → ((o : Operation) → reads_and_writes o ≡ true → operates r o ≡ true) → (row : ℕ) (a : Meaning) (f : Fault) → OnMember reads_and_writes a f
     → InCall r (Some row) a (fault_in_row row f)
-member_in_row r reads writes flushes row a f n = record { operation = of_walk r reads writes flushes f.operation n.operation; there = n.there; row = refl }
+in_row_of r all row a f n = in_call_of_row r row a f (member_as all a f n)
 
 keep_rowed : {S L : Type 0} (mean : S → Meaning) (place : L → Geometry) (name : L → Label) (verdict : Option Refusal) (same : Type 0) (v w : Volume S L)
     → verdict ≡ None → (x : Result Unit Refused) → KeepEnds mean place name v w x
     → CallEnds mean place name verdict (λ u. Nothing) Keep same v w (rowed (kept_rows v.array.head.progress) x)
-keep_rowed mean place name verdict same v w none (Ok x) k = record { by = none; head = k.0; known = k.1; out = refl }
+keep_rowed mean place name verdict same v w none (Ok x) k = record { by = none; goes = k.1; head = k.0; known = k.2; out = refl }
 keep_rowed mean place name verdict same v w none (Err e) k = inr (record {
   by = none;
-  met = met_rowed (kept_rows v.array.head.progress) (OnMember (mean v.shelf)) (InCall Keep (Some (kept_rows v.array.head.progress)) (mean v.shelf))
-      (member_in_row Keep refl refl refl (kept_rows v.array.head.progress) (mean v.shelf)) e k.1;
+  met = met_rowed (kept_rows v.array.head.progress) (OnMember reads_and_writes (mean v.shelf)) (InCall Keep (Some (kept_rows v.array.head.progress)) (mean v.shelf))
+      (in_row_of Keep (operates_all Keep refl refl refl) (kept_rows v.array.head.progress) (mean v.shelf)) e k.1;
   head = k.0;
   known = k.2 ∙ search rules;
 })
@@ -75,8 +72,15 @@ err_or d (Ok u) = d
 err_or d (Err e) = e
 
 -- a row that was not placed was met
-pub copy_met : (w : Crew) (P : ℕ → ℕ → List ℕ → Type 0) (a b : Meaning) (row : ℕ) (x : Result Unit Refused) → StageEnds w P a b x → (e : Refused) → Err e ≡ rowed row x
-    → Met w (InCall Copy (Some row) a) b e
+pub copy_met : (w : Crew) (P : ℕ → ℕ → List ℕ → Type 0) (a b : Meaning) (row : ℕ) (x : Result Unit Refused) → StageEnds w reads_and_writes P a b x
+    → (e : Refused) → Err e ≡ rowed row x → Met w (InCall Copy (Some row) a) b e
 copy_met w P a b row (Ok u) s e is = absurd (both_ways false refl (ap is_ok is))
 copy_met w P a b row (Err d) s e is =
-    subst (λ y. Met w (InCall Copy (Some row) a) b y) (sym (ap (err_or d) is)) (met_rowed row (OnMember a) (InCall Copy (Some row) a) (member_in_row Copy refl refl refl row a) d s.1)
+    subst (λ y. Met w (InCall Copy (Some row) a) b y) (sym (ap (err_or d) is))
+    (met_rowed row (OnMember reads_and_writes a) (InCall Copy (Some row) a) (in_row_of Copy (operates_all Copy refl refl refl) row a) d s.1)
+
+-- one that was placed was not
+pub copy_goes : (w : Crew) (P : ℕ → ℕ → List ℕ → Type 0) (a b : Meaning) (row : ℕ) (x : Result Unit Refused) → StageEnds w reads_and_writes P a b x
+    → Ok tt ≡ rowed row x → GoesOn w a b
+copy_goes w P a b row (Ok u) s is = s.1
+copy_goes w P a b row (Err d) s is = absurd (both_ways true (ap is_ok is) refl)

@@ -5,3 +5,4 @@ pub mod Writing
 pub mod Keeping
 pub mod Settling
 pub mod Founding
+pub mod Opening

@@ -53,7 +53,7 @@ settle_by mean place name row v w moving held housed (Err e) c =
     let below = held_next v.hand row u.settled u.crew.target.rows held h.2 in
     housed_as (with_settled u u.settled) (known place w) a (mean w.shelf) (same_crew place v.array w.array c.source c.target c.phase) (ap (λ k. k.size) c.stage.0) (ap (λ k. k.backup) c.stage.0)
     (ap (λ k. settled_rows k.progress) c.stage.0) (c.hand ∙ held_emptied v.hand row held)
-    (elim c.stage.1 [ inl spent ↦ ap (λ y. y.members) spent.same | inr m ↦ m.may.members ]) (elim c.stage.1 [ inl spent ↦ ap (λ y. y.sectors) spent.same | inr m ↦ m.may.sectors ])
+    (elim c.stage.1 [ inl spent ↦ ap (λ y. y.members) spent.same | inr m ↦ m.torn.members ]) (elim c.stage.1 [ inl spent ↦ ap (λ y. y.sectors) spent.same | inr m ↦ m.torn.sectors ])
     (settled_housed u a u.settled moving h.0 h.1 (omega (arith, below)))
 
 pub settle_housed : {S L : Type 0} (mean : S → Meaning) (place : L → Geometry) (name : L → Label) (row : ℕ) (v m w : Volume S L) → v.array.phase ≡ Moving → is_hand v.hand row ≡ true

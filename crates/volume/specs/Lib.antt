@@ -1,1 +1,2 @@
+pub mod TakingUp
 pub mod Volumes

@@ -1,5 +1,5 @@
 -- What clauses read of a volume.
-use Rattle.std.specs.Prelude.{◌≡◌, ℕ, ◌<◌, ◌≤◌, [], Some, None, Ok, Err, OnOk, Option, Result}
+use Rattle.std.specs.Prelude.{◌≡◌, ℕ, ◌<◌, ◌≤◌, ◌⊎◌, [], Some, None, Ok, Err, OnOk, Option, Result}
 use Rattle.answer.specs.Faults.{in_row}
 use Rattle.answer.specs.declared.Refusal.{Refusal}
 use Rattle.answer.specs.declared.Refused.{Refused}
@@ -10,9 +10,10 @@ use Rattle.layout.specs.Geometry.{Geometry, capacity}
 use Rattle.layout.specs.declared.label.Label.{Label}
 use Rattle.overlap.specs.Needs.{distance_of}
 use Rattle.shelf.specs.Meaning.{Meaning}
-use Rattle.model.specs.Answers.{Ended, HeadLeft}
-use Rattle.model.specs.Effects.{HeadAfter, Rearmed, known_after}
-use Rattle.model.specs.Ends.{Met}
+use Rattle.model.specs.Answers.{CreateMet, Ended, HeadLeft, TurnedAway}
+use Rattle.model.specs.Crew.{crew}
+use Rattle.model.specs.Effects.{First, HeadAfter, Rearmed, known_after}
+use Rattle.model.specs.Ends.{GoesOn, Met}
 use Rattle.model.specs.Handed.{Handed}
 use Rattle.model.specs.Knowing.{Volume as Known}
 use Rattle.model.specs.Readable.{Room}
@@ -22,7 +23,7 @@ use Rattle.model.specs.declared.request.Request.{Request}
 use Rattle.model.specs.declared.request.Request.TheVariants.{Keep, Write}
 use Rattle.stage.specs.Arrays.{crew_of, volume_on}
 use Rattle.stage.specs.Checkpoint.{Checkpointed}
-use Rattle.stage.specs.Endings.{OnMember}
+use Rattle.stage.specs.Endings.{OnMember, only_writes, reads_and_writes}
 use Rattle.volume.specs.declared.Volume.{Volume}
 use Rattle.volume.specs.declared.grant.Grant.{Grant}
 
@@ -123,13 +124,37 @@ pub record Alike {S L : Type 0} (mean : S → Meaning) (v w : Volume S L) : Type
   pub members : (mean w.shelf).members ≡ (mean v.shelf).members
   pub sectors : (mean w.shelf).sectors ≡ (mean v.shelf).sectors
 
+-- power and members that were enough are enough
+abbrev pub StaysOn : {S L : Type 0} → (S → Meaning) → (L → Geometry) → (v w : Volume S L) → Type 0
+StaysOn mean place v w = GoesOn (crew_of place v.array) (mean v.shelf) (mean w.shelf)
+
 -- a write of sector i that was carried out, or met
 abbrev pub Carried : {S L : Type 0} → (S → Meaning) → (L → Geometry) → ℕ → (v w : Volume S L) → Result Unit Refused → Type 0
-Carried mean place i v w (Ok x) = Rearmed i v.array.head w.array.head
-Carried mean place i v w (Err e) = HeadLeft (Write i []) v.array.head w.array.head × Met (crew_of place v.array) (OnMember (mean v.shelf)) (mean w.shelf) e
+Carried mean place i v w (Ok x) = Rearmed i v.array.head w.array.head × StaysOn mean place v w
+Carried mean place i v w (Err e) = HeadLeft (Write i []) v.array.head w.array.head × Met (crew_of place v.array) (OnMember only_writes (mean v.shelf)) (mean w.shelf) e
 
 -- The next source row was kept, or this was met: nothing has changed but the head.
 abbrev pub KeepEnds : {S L : Type 0} → (S → Meaning) → (L → Geometry) → (L → Label) → (v w : Volume S L) → Result Unit Refused → Type 0
-KeepEnds mean place name v w (Ok x) = HeadAfter Keep (known place v) (name v.array.target) v.array.head w.array.head × (known place w ≡ known_after Keep (known place v) w.array.head)
+KeepEnds mean place name v w (Ok x) =
+    HeadAfter Keep (known place v) (name v.array.target) v.array.head w.array.head × StaysOn mean place v w
+    × (known place w ≡ known_after Keep (known place v) w.array.head)
 KeepEnds mean place name v w (Err e) =
-    (w.array.head ≡ v.array.head) × Met (crew_of place v.array) (OnMember (mean v.shelf)) (mean w.shelf) e × (known place w ≡ known place v)
+    (w.array.head ≡ v.array.head) × Met (crew_of place v.array) (OnMember reads_and_writes (mean v.shelf)) (mean w.shelf) e × (known place w ≡ known place v)
+
+-- nothing has changed but the shelf, the phase and the head
+pub record SameLayouts {S L : Type 0} (v w : Volume S L) : Type 0 where
+  pub source : w.array.source ≡ v.array.source
+  pub target : w.array.target ≡ v.array.target
+  pub hand : w.hand ≡ v.hand
+
+-- a volume with no move and its first head
+pub record Founded {S L : Type 0} (mean : S → Meaning) (place : L → Geometry) (label : Label) (size backup : ℕ) (v w : Volume S L) : Type 0 where
+  pub goes : GoesOn (crew Before (place v.array.source) (place v.array.target)) (mean v.shelf) (mean w.shelf)
+  pub first : First label size backup w.array.head
+  pub phase : w.array.phase ≡ Before
+
+-- How a volume was laid out on v's shelf, by its verdict, both ways.
+abbrev pub LaidOut : {S L : Type 0} → (S → Meaning) → (L → Geometry) → (L → Label) → Option Refusal → (size backup : ℕ) → (v w : Volume S L) → Result Unit Refused → Type 0
+LaidOut mean place name verdict size backup v w (Ok x) = (verdict ≡ None) × Founded mean place (name v.array.source) size backup v w
+LaidOut mean place name verdict size backup v w (Err e) =
+    TurnedAway verdict (w ≡ v) e ⊎ CreateMet verdict (place v.array.source) (place v.array.target) (mean v.shelf) (mean w.shelf) e

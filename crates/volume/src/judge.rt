@@ -1,12 +1,13 @@
 // What is judged before the first operation of a call, in the order in which several refusals are told.
-ghost use Rattle.std.specs.Prelude.{◌≡◌, ◌+◌, ◌*◌, ◌<◌, ◌≤◌, IfOk, if◌then◌else◌, Some, None, OnOk, true};
+ghost use Rattle.std.specs.Prelude.{◌≡◌, ◌+◌, ◌*◌, ◌<◌, ◌≤◌, IfOk, if◌then◌else◌, Some, None, OnOk, false, true};
 ghost use Rattle.answer.specs.declared.Refusal.TheVariants.{NumbersSpent};
 ghost use Rattle.head.specs.declared.TheConstants.{MOST_NUMBER};
+ghost use Rattle.sector.specs.declared.TheConstants.{SECTOR};
 ghost use Rattle.model.specs.Crew.{crew, enough};
 ghost use Rattle.model.specs.declared.phase.Phase.TheVariants.{Before, Moving};
 ghost use Rattle.model.specs.Knowing.{phase_by};
-ghost use Rattle.model.specs.Opening.{head_fits, head_verdict, layouts_named, logged_fits, progress_fits, target_named, walk_fits};
-ghost use Rattle.model.specs.Verdicts.{Judged, access_verdict, admission, begin_verdict, copy_verdict, create_verdict, finish_verdict, fits as room, is_hand, shelf_in_limits, keep_verdict, read_verdict, settle_verdict, spent, write_verdict};
+ghost use Rattle.model.specs.Opening.{cannot_disarm, head_fits, head_verdict, layouts_named, logged_fits, progress_fits, target_named, walk_fits};
+ghost use Rattle.model.specs.Verdicts.{Judged, access_verdict, admission, begin_verdict, copy_verdict, create_verdict, finish_verdict, fits, is_hand, shelf_in_limits, keep_verdict, read_verdict, settle_verdict, spent, write_verdict};
 ghost use Rattle.volume.specs.Volumes.{HasRoom, distance_in, hand_of, head_of, known, phase_of, shelf_of, source_of, target_of};
 
 use crate::Volume;
@@ -33,8 +34,8 @@ fn is_in_limits<S: Shelf>(shelf: &S) -> bool
 
 // Whether a layout, the slots before it and a volume of this size fit the shelf. Slots and size are two numbers: create has no head yet
 // that holds them.
-pub fn fits<S: Shelf, L: Layout>(shelf: &S, layout: &L, backup: u32, size: u64) -> bool
-    ensures { result ≡ room (S.meaning shelf.now) (L.geometry layout.now) backup size }
+pub fn has_room<S: Shelf, L: Layout>(shelf: &S, layout: &L, backup: u32, size: u64) -> bool
+    ensures { result ≡ fits (S.meaning shelf.now) (L.geometry layout.now) backup size }
 {
     is_in_limits(shelf)
         && (layout.members() <= shelf.members()
@@ -84,12 +85,12 @@ impl<S: Shelf, L: Layout> Volume<S, L> {
     pub(crate) fn judge_create(&self, backup: u32, size: u64) -> Result<(), Refusal>
         ensures verdict { Judged (create_verdict (L.named (source_of self.now)) (L.geometry (source_of self.now)) (S.meaning (shelf_of self.now)) backup size) result }
         ensures slots { OnOk result ((1 ≤ backup) × (backup ≤ MOST_BACKUP)) }
-        ensures room { OnOk result (room (S.meaning (shelf_of self.now)) (L.geometry (source_of self.now)) backup size ≡ true) }
+        ensures room { OnOk result (fits (S.meaning (shelf_of self.now)) (L.geometry (source_of self.now)) backup size ≡ true) }
     {
         let source = &self.array.source;
         if !(1..=MOST_BACKUP).contains(&backup)
             || !has_true_label(source)
-            || !fits(&self.shelf, source, backup, size)
+            || !has_room(&self.shelf, source, backup, size)
         {
             return Err(Refusal::OutOfLimits);
         }
@@ -105,7 +106,7 @@ impl<S: Shelf, L: Layout> Volume<S, L> {
     // A read or a write of a sector, by a buffer of some length.
     fn judge_access(&self, sector: u64, length: usize) -> Result<(), Refusal>
         ensures verdict { Judged (access_verdict (known L.geometry self.now) sector length) result }
-        ensures long { OnOk result (length ≡ 512) }
+        ensures long { OnOk result (length ≡ SECTOR) }
         ensures below { OnOk result (sector < (known L.geometry self.now).size) }
     {
         if length != SECTOR {
@@ -119,7 +120,7 @@ impl<S: Shelf, L: Layout> Volume<S, L> {
 
     pub(crate) fn judge_read(&self, sector: u64, length: usize) -> Result<(), Refusal>
         ensures verdict { Judged (read_verdict (known L.geometry self.now) (S.meaning (shelf_of self.now)) sector length) result }
-        ensures long { OnOk result (length ≡ 512) }
+        ensures long { OnOk result (length ≡ SECTOR) }
         ensures enough { OnOk result (enough (known L.geometry self.now).crew (S.meaning (shelf_of self.now)) ≡ true) }
         ensures below { OnOk result (sector < (known L.geometry self.now).size) }
     {
@@ -129,7 +130,7 @@ impl<S: Shelf, L: Layout> Volume<S, L> {
 
     pub(crate) fn judge_write(&self, sector: u64, length: usize) -> Result<(), Refusal>
         ensures verdict { Judged (write_verdict (known L.geometry self.now) (S.meaning (shelf_of self.now)) sector length) result }
-        ensures long { OnOk result (length ≡ 512) }
+        ensures long { OnOk result (length ≡ SECTOR) }
         ensures enough { OnOk result (enough (known L.geometry self.now).crew (S.meaning (shelf_of self.now)) ≡ true) }
         ensures below { OnOk result (sector < (known L.geometry self.now).size) }
         ensures left { OnOk result ((head_of self.now).number + 2 ≤ MOST_NUMBER) }
@@ -153,7 +154,7 @@ impl<S: Shelf, L: Layout> Volume<S, L> {
         self.admit(Call::Begin)?;
         let head = &self.array.head;
         let target = &self.array.target;
-        if !has_true_label(target) || !fits(&self.shelf, target, head.backup, head.size) {
+        if !has_true_label(target) || !has_room(&self.shelf, target, head.backup, head.size) {
             return Err(Refusal::OutOfLimits);
         }
         let distance = distance(&self.array.source, target, head.size);
@@ -235,6 +236,8 @@ impl<S: Shelf, L: Layout> Volume<S, L> {
     // Whether a head that was found can be opened on this shelf with these layouts.
     pub(crate) fn judge_head(&self, head: &Head) -> Result<(), Refusal>
         ensures fits { OnOk result (head_fits head.now (S.meaning (shelf_of self.now)) (L.geometry (source_of self.now)) (L.geometry (target_of self.now)) ≡ true) }
+        ensures enough { OnOk result (enough (crew (phase_by head.now.progress) (L.geometry (source_of self.now)) (L.geometry (target_of self.now))) (S.meaning (shelf_of self.now)) ≡ true) }
+        ensures left { OnOk result (cannot_disarm head.now.armed head.now.number ≡ false) }
         ensures verdict { Judged (head_verdict head.now (S.meaning (shelf_of self.now)) (L.named (source_of self.now)) (L.named (target_of self.now)) (L.geometry (source_of self.now)) (L.geometry (target_of self.now))) result }
     {
         if !self.names_layouts(head) {
@@ -273,7 +276,7 @@ impl<S: Shelf, L: Layout> Volume<S, L> {
         ensures { result ≡ head_fits head.now (S.meaning (shelf_of self.now)) (L.geometry (source_of self.now)) (L.geometry (target_of self.now)) }
     {
         is_of_volume(head.armed, head.size)
-            && (fits(&self.shelf, &self.array.source, head.backup, head.size)
+            && (has_room(&self.shelf, &self.array.source, head.backup, head.size)
                 && self.fits_progress(head))
     }
 
@@ -283,7 +286,7 @@ impl<S: Shelf, L: Layout> Volume<S, L> {
         match head.progress {
             Progress::Idle => true,
             Progress::Moving { settled, kept, .. } => {
-                fits(&self.shelf, &self.array.target, head.backup, head.size)
+                has_room(&self.shelf, &self.array.target, head.backup, head.size)
                     && self.fits_walk(head.size, head.backup, settled, kept)
             }
         }

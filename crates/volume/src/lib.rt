@@ -3,19 +3,20 @@
 #![tactic(auto)]
 
 ghost use Rattle.std.specs.Prelude.{◌≡◌, ◌+◌, ◌*◌, ◌<◌, ◌≤◌, None, length, IfOk, OnErr, OnOk};
-ghost use Rattle.head.specs.declared.TheConstants.{MOST_NUMBER};
+ghost use Rattle.head.specs.declared.TheConstants.{MOST_NUMBER, SLOTS_AT};
 ghost use Rattle.head.specs.Heads.{kept_rows, settled_rows};
 ghost use Rattle.head.specs.declared.state.Progress.TheVariants.{Moving as UnderWay};
-ghost use Rattle.model.specs.Handed.Handed.{Counts, Distance, Nothing, Row};
+ghost use Rattle.model.specs.Answers.{CreateEnded, OpenEnded};
+ghost use Rattle.model.specs.Handed.Handed.{Buffer, Counts, Distance, Nothing, Row};
 ghost use Rattle.model.specs.declared.request.Request.TheVariants.{Begin, Copy, Finish, HandBack, Keep, Read, Settle, Write};
-ghost use Rattle.model.specs.declared.phase.Phase.TheVariants.{Before};
 ghost use Rattle.model.specs.May.{From, May, nothing};
 ghost use Rattle.model.specs.Effects.{First};
 ghost use Rattle.model.specs.Knowing.{phase_by};
-ghost use Rattle.model.specs.Opening.{OpensBy, Restarted};
-ghost use Rattle.model.specs.Verdicts.{NotShut, RefusedBy, ShutBy, ShutsBy, begin_verdict, copy_verdict, create_verdict, emptied, finish_verdict, hand_back_verdict, is_hand, keep_verdict, read_verdict, settle_verdict, write_verdict};
+ghost use Rattle.model.specs.Opening.{Restarted};
+ghost use Rattle.model.specs.Verdicts.{RefusedBy, ShutsBy, begin_verdict, copy_verdict, create_verdict, emptied, finish_verdict, hand_back_verdict, is_hand, keep_verdict, read_verdict, settle_verdict, write_verdict};
 ghost use Rattle.stage.specs.Endings.{HasVolume};
-ghost use Rattle.volume.specs.Volumes.{Alike, CallEnds, Carried, CheckpointOf, Housed, KeepEnds, OnlyHand, OnlyShelf, StaysHoused, distance_in, hand_of, known, phase_of, granted_row, rowed, shelf_of, source_of, target_of};
+ghost use Rattle.volume.specs.TakingUp.{LetPass, TookUp, WentOn};
+ghost use Rattle.volume.specs.Volumes.{Alike, CallEnds, Carried, CheckpointOf, Housed, KeepEnds, LaidOut, OnlyHand, OnlyShelf, SameLayouts, StaysHoused, distance_in, hand_of, head_of, known, phase_of, granted_row, rowed, shelf_of, source_of, target_of};
 
 pub mod grant;
 mod judge;
@@ -59,8 +60,7 @@ impl<S: Shelf, L: Layout> Volume<S, L> {
         backup: u32,
         size: u64,
     ) -> (Volume<S, L>, Result<(), Refused>)
-        ensures verdict { RefusedBy (create_verdict (L.named source) (L.geometry source) (S.meaning shelf) backup size) (shelf_of result.0 ≡ shelf) result.1 }
-        ensures shut { ShutBy (phase_of result.0) result.1 }
+        ensures ends { CreateEnded (shelf_of result.0 ≡ shelf) (L.named source) (L.geometry source) (L.geometry target) size backup (S.meaning shelf) (known L.geometry result.0) (head_of result.0) (S.meaning (shelf_of result.0)) result.1 }
         ensures housed { OnOk result.1 (Housed (known L.geometry result.0) (S.meaning (shelf_of result.0))) }
     {
         let mut volume = Volume::unopened(shelf, source, target);
@@ -71,8 +71,7 @@ impl<S: Shelf, L: Layout> Volume<S, L> {
 
     // The volume that a shelf holds, once power is back. An idle head needs the source only. It stands beside the result, as in create.
     pub fn open(shelf: S, source: L, target: L) -> (Volume<S, L>, Result<(), Refused>)
-        ensures head { OpensBy (L.named source) (L.named target) (L.geometry source) (L.geometry target) (S.meaning shelf) (S.meaning (shelf_of result.0)) result.1 }
-        ensures shut { ShutBy (phase_of result.0) result.1 }
+        ensures ends { OpenEnded (L.named source) (L.named target) (L.geometry source) (L.geometry target) (S.meaning shelf) (known L.geometry result.0) (head_of result.0) (S.meaning (shelf_of result.0)) result.1 }
         ensures housed { OnOk result.1 (Housed (known L.geometry result.0) (S.meaning (shelf_of result.0))) }
     {
         let mut volume = Volume::unopened(shelf, source, target);
@@ -149,7 +148,7 @@ impl<S: Shelf, L: Layout> Volume<S, L> {
     // Reads a sector; where it is refused the buffer stays as it was.
     pub fn read(&mut self, sector: u64, buffer: &mut [u8]) -> Result<(), Refused>
         ensures verdict { RefusedBy (read_verdict (known L.geometry self.old) (S.meaning (shelf_of self.old)) sector (length buffer.old)) (self.new ≡ self.old) result }
-        ensures ends { Housed (known L.geometry self.old) (S.meaning (shelf_of self.old)) → CallEnds S.meaning L.geometry L.named (read_verdict (known L.geometry self.old) (S.meaning (shelf_of self.old)) sector (length buffer.old)) (λ u. Nothing) (Read sector) (self.new ≡ self.old) self.old self.new result }
+        ensures ends { Housed (known L.geometry self.old) (S.meaning (shelf_of self.old)) → CallEnds S.meaning L.geometry L.named (read_verdict (known L.geometry self.old) (S.meaning (shelf_of self.old)) sector (length buffer.old)) (λ u. Buffer buffer.new) (Read sector) (self.new ≡ self.old) self.old self.new result }
         ensures housed { StaysHoused S.meaning L.geometry self.old self.new }
         ensures buffer { OnErr result (buffer.new ≡ buffer.old) }
         ensures writes { May nothing (S.meaning (shelf_of self.old)) (S.meaning (shelf_of self.new)) }
@@ -203,7 +202,7 @@ impl<S: Shelf, L: Layout> Volume<S, L> {
         ensures verdict { RefusedBy (copy_verdict (known L.geometry self.old) (S.meaning (shelf_of self.old))) (self.new ≡ self.old) result }
         ensures ends { Housed (known L.geometry self.old) (S.meaning (shelf_of self.old)) → CallEnds S.meaning L.geometry L.named (copy_verdict (known L.geometry self.old) (S.meaning (shelf_of self.old))) (λ g. Row (granted_row g)) Copy (self.new ≡ self.old) self.old self.new result }
         ensures housed { StaysHoused S.meaning L.geometry self.old self.new }
-        ensures writes { May (From (3 + (known L.geometry self.old).backup)) (S.meaning (shelf_of self.old)) (S.meaning (shelf_of self.new)) }
+        ensures writes { May (From (SLOTS_AT + (known L.geometry self.old).backup)) (S.meaning (shelf_of self.old)) (S.meaning (shelf_of self.new)) }
     {
         self.judge_copy()?;
         let walk = self.array.walk();
@@ -281,6 +280,7 @@ impl<S: Shelf, L: Layout> Volume<S, L> {
     // A refused create or open leaves a volume whose calls answer that power is lost, if it was, else that this is no phase for them.
     fn shut_if_refused(&mut self, res: &Result<(), Refused>)
         ensures shelf { shelf_of self.new ≡ shelf_of self.old }
+        ensures layouts { SameLayouts self.old self.new }
         ensures phase { ShutsBy (phase_of self.old) (phase_of self.new) res.now }
         ensures done { OnOk res.now (self.new ≡ self.old) }
     {
@@ -294,8 +294,8 @@ impl<S: Shelf, L: Layout> Volume<S, L> {
 
     // Zeroes the source's places, and only then writes the first head.
     fn lay_out(&mut self, backup: u32, size: u64) -> Result<(), Refused>
-        ensures verdict { RefusedBy (create_verdict (L.named (source_of self.old)) (L.geometry (source_of self.old)) (S.meaning (shelf_of self.old)) backup size) (self.new ≡ self.old) result }
-        ensures phase { OnOk result (phase_of self.new ≡ Before) }
+        ensures ends { LaidOut S.meaning L.geometry L.named (create_verdict (L.named (source_of self.old)) (L.geometry (source_of self.old)) (S.meaning (shelf_of self.old)) backup size) size backup self.old self.new result }
+        ensures layouts { SameLayouts self.old self.new }
         ensures housed { hand_of self.old ≡ None → OnOk result (Housed (known L.geometry self.new) (S.meaning (shelf_of self.new))) }
     {
         self.judge_create(backup, size)?;
@@ -308,8 +308,8 @@ impl<S: Shelf, L: Layout> Volume<S, L> {
 
     // Finds the head that leads, has every member hold it, and finishes a write that it is armed for.
     fn take_up(&mut self) -> Result<(), Refused>
-        ensures in_use { OnOk result (NotShut (phase_of self.new)) }
-        ensures head { OpensBy (L.named (source_of self.old)) (L.named (target_of self.old)) (L.geometry (source_of self.old)) (L.geometry (target_of self.old)) (S.meaning (shelf_of self.old)) (S.meaning (shelf_of self.new)) result }
+        ensures ends { hand_of self.old ≡ None → TookUp (L.named (source_of self.old)) (L.named (target_of self.old)) (L.geometry (source_of self.old)) (L.geometry (target_of self.old)) (S.meaning (shelf_of self.old)) (known L.geometry self.new) (head_of self.new) (S.meaning (shelf_of self.new)) result }
+        ensures layouts { SameLayouts self.old self.new }
         ensures housed { hand_of self.old ≡ None → OnOk result (Housed (known L.geometry self.new) (S.meaning (shelf_of self.new))) }
     {
         let head = self.restarted_head()?.ok_or(Refusal::NoHead)?;
@@ -321,7 +321,8 @@ impl<S: Shelf, L: Layout> Volume<S, L> {
 
     // Every member holds the head, and a write that it is armed for is finished.
     fn go_on(&mut self) -> Result<(), Refused>
-        ensures { Alike S.meaning self.old self.new }
+        ensures alike { Alike S.meaning self.old self.new }
+        ensures ends { LetPass S.meaning L.geometry self.old → WentOn S.meaning L.geometry self.old self.new result }
     {
         let head = self.array.head;
         self.array.spread(&mut self.shelf, &head)?;

@@ -1,5 +1,7 @@
 use Rattle.std.proofs.Common.{inl, refl}
+use Rattle.stage.specs.Arrays.{crew_of}
 use Rattle.stage.proofs.Chains.{handed_on}
+use Rattle.stage.proofs.Endings.{Going}
 use Rattle.volume.specs.Volumes.{Carried}
 use Rattle.volume.proofs.Writing.{apply_met, arm_met, disarm_ends, onto}
 use Rattle.volume.proofs.Volume.carry_out.Goals as goal
@@ -37,5 +39,7 @@ returns-clause-ends g c = λ left.
     let v = c.args.self.now in
     let m = c.checkpoint_armed.new.self in
     let w = c.checkpoint_armed-2.new.self in
-    disarm_ends mean place c.args.entry.sector v m w c.log.new.shelf c.apply.new.shelf left c.in_ok-log.ensures.0 c.in_ok-checkpoint_armed.ensures c.in_ok-apply.ensures.0
+    let logged : Going (crew_of place v.array) _ (mean v.shelf) (mean c.log.new.shelf) = record { may = c.in_ok-log.ensures.0; goes = c.in_ok-log.ensures.1 } in
+    let placed : Going (crew_of place m.array) _ (mean m.shelf) (mean c.apply.new.shelf) = record { may = c.in_ok-apply.ensures.0; goes = c.in_ok-apply.ensures.1 } in
+    disarm_ends mean place c.args.entry.sector v m w c.log.new.shelf c.apply.new.shelf left logged c.in_ok-checkpoint_armed.ensures placed
     c.checkpoint_armed-2.result c.checkpoint_armed-2.ensures

@@ -1,4 +1,4 @@
-use Rattle.std.proofs.Common.{◌≡◌, ◌+◌, Err, inr, refl, subst}
+use Rattle.std.proofs.Common.{◌≡◌, ◌+◌, Err, inr, refl, subst, rules}
 use Rattle.head.specs.Heads.{settled_rows}
 use Rattle.model.specs.Handed.Handed.{Row}
 use Rattle.model.specs.May.{From}
@@ -6,7 +6,7 @@ use Rattle.model.specs.Verdicts.{copy_verdict}
 use Rattle.model.specs.declared.request.Request.TheVariants.{Copy}
 use Rattle.stage.proofs.Chains.{handed_on}
 use Rattle.volume.specs.Volumes.{CallEnds, granted_row, known, rowed}
-use Rattle.volume.proofs.Keeping.{copy_met, has_volume}
+use Rattle.volume.proofs.Keeping.{copy_goes, copy_met, has_volume}
 use Rattle.volume.proofs.Writing.{onto}
 use Rattle.volume.proofs.Volume.copy.Goals as goal
 
@@ -30,3 +30,20 @@ returns-in_err-in_row-clause-ends g c = λ housed.
       head = refl;
       known = refl;
     }))
+
+pub returns-clause-ends : goal.returns-clause-ends
+returns-clause-ends g c = λ housed.
+    let mean = g.S.Shelf.meaning in
+    let place = g.L.Layout.geometry in
+    let v = c.args.self.now in
+    let u = known place v in
+    let x = c.place_row-placed.result in
+    let judged = c.in_ok-judge_copy.ensures in
+    let placed = c.place_row-placed.ensures.ends (has_volume mean place v housed judged.enough) in
+    record {
+      by = judged.verdict;
+      goes = copy_goes u.crew (From (3 + v.array.head.backup)) (mean v.shelf) (mean c.place_row-placed.new.shelf) c.walk-walk.result.settled x placed c.in_ok-in_row.ensures;
+      head = refl;
+      known = search rules;
+      out = search rules;
+    }

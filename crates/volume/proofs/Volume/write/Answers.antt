@@ -6,7 +6,7 @@ use Rattle.model.specs.declared.request.Request.TheVariants.{Write}
 use Rattle.stage.proofs.Chains.{handed_on}
 use Rattle.volume.specs.Volumes.{CallEnds, known}
 use Rattle.volume.proofs.Housing.{home_has}
-use Rattle.volume.proofs.Writing.{onto, parity_met}
+use Rattle.volume.proofs.Writing.{onto, parity_met, write_ends}
 use Rattle.volume.proofs.Volume.write.Goals as goal
 
 pub returns-in_err-parity-clause-ends : goal.returns-in_err-parity-clause-ends
@@ -24,3 +24,17 @@ returns-in_err-parity-clause-ends g c = λ housed.
     handed_on (λ r. CallEnds g.S.Shelf.meaning place g.L.Layout.named (write_verdict u a i (length x)) (λ y. Nothing) (Write i x) (w ≡ v) v w r)
     c.from_residual-in_err-parity.result _ c.from_residual-in_err-parity.ensures.1
     (inr (record { by = judged.verdict; met = parity_met (home_by u i) u.crew u.crew.source u.crew.target u.backup i _ a b _ shown; head = inl refl; known = refl }))
+
+pub returns-clause-ends : goal.returns-clause-ends
+returns-clause-ends g c = λ housed.
+    let mean = g.S.Shelf.meaning in
+    let place = g.L.Layout.geometry in
+    let v = c.args.self.now in
+    let u = known place v in
+    let a = mean v.shelf in
+    let i = c.args.sector in
+    let x = c.args.buffer.now in
+    let judged = c.in_ok-judge_write.ensures in
+    let shown = c.in_ok-parity.ensures.shows (home_has u a i housed judged.enough judged.below) in
+    write_ends mean place g.L.Layout.named (write_verdict u a i (length x)) (c.carry_out.new.self ≡ v) i x v c.carry_out.new.self c.parity_after.new.shelf judged.verdict
+    (record { may = shown.0; goes = shown.1 }) c.carry_out.ensures.alike c.carry_out.result (c.carry_out.ensures.ends judged.left)

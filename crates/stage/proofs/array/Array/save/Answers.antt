@@ -1,38 +1,42 @@
-use Rattle.std.proofs.Common.{refl, arith}
-use Rattle.answer.specs.declared.Operation.TheVariants.{Flush}
-use Rattle.model.specs.May.{InSlots, nothing}
-use Rattle.model.proofs.Mays.{may_then, quiet}
-use Rattle.stage.specs.Arrays.{crew_of}
+use Rattle.std.proofs.Common.{None, arith, rules}
+use Rattle.model.specs.May.{InSlots}
+use Rattle.model.proofs.Mays.{may_refl, may_then, quiet}
+use Rattle.stage.specs.Arrays.{volume_on}
 use Rattle.stage.specs.Endings.{StageEnds, reads_and_writes}
-use Rattle.stage.specs.Looks.{homes_of}
+use Rattle.stage.specs.Rows.{SavesBy}
 use Rattle.stage.proofs.Chains.{handed_on, stage_may}
-use Rattle.stage.proofs.Endings.{Going, ends_after, going_then, met_after, no_plan, on_sector, size_kept, stage_ends}
+use Rattle.stage.proofs.Saving.{save_begins, save_done, save_met, save_next, saves_at, slots_done, slots_met}
 use Rattle.stage.proofs.array.Array.save.Goals as goal
+
+pub loop-sector-init : goal.loop-sector-init
+loop-sector-init g c = (
+  may_refl (g.S.Shelf.meaning c.args.shelf.now),
+  λ has most. save_begins (volume_on g.L.Layout.geometry c.args.self.now None) c.args.sectors.start c.args.sectors.end (g.S.Shelf.meaning c.args.shelf.now)
+      (search rules) most has,
+)
 
 pub returns-in_err-save_sector-clause-ends : goal.returns-in_err-save_sector-clause-ends
 returns-in_err-save_sector-clause-ends g c = λ has most.
-    let w = crew_of g.L.Layout.geometry c.args.self.now in
-    let v = c.args.self.now in
+    let v = volume_on g.L.Layout.geometry c.args.self.now None in
     let a = g.S.Shelf.meaning c.args.shelf.now in
-    let P = InSlots v.head.backup in
-    let b = g.S.Shelf.meaning c.loop-sector.shelf in
     let d = g.S.Shelf.meaning c.save_sector.new.shelf in
-    let so : Going w P a b = record { may = c.loop-sector.invariant.0; goes = c.loop-sector.invariant.1 has most } in
-    let now = size_kept (homes_of g.L.Layout.geometry v) (g.L.Layout.geometry v.source) (g.L.Layout.geometry v.target) v.head.backup v.head.size so has in
-    handed_on (λ r. StageEnds w reads_and_writes P a d r) c.from_residual.result _ c.from_residual.ensures.1
-    (met_after d so _ (c.in_err-save_sector.ensures.ends (now.each c.loop-sector.sector (omega arith))))
+    handed_on (λ r. StageEnds v.crew reads_and_writes (InSlots v.backup) a d r) c.from_residual.result _ c.from_residual.ensures.1
+    (slots_met d _ (omega arith) (saves_at (c.loop-sector.invariant.1 has most) (omega arith) (omega arith) most c.in_err-save_sector.ensures.saves))
+
+pub returns-in_err-save_sector-clause-saves : goal.returns-in_err-save_sector-clause-saves
+returns-in_err-save_sector-clause-saves g c = λ has most can some.
+    let v = volume_on g.L.Layout.geometry c.args.self.now None in
+    let a = g.S.Shelf.meaning c.args.shelf.now in
+    let d = g.S.Shelf.meaning c.save_sector.new.shelf in
+    handed_on (λ r. SavesBy v c.args.sectors.start c.args.sectors.end a d r) c.from_residual.result _ c.from_residual.ensures.1
+    (save_met d _ (g.met.L.Layout.lawful c.args.self.now.source) (g.met.L.Layout.lawful c.args.self.now.target) most can
+    (saves_at (c.loop-sector.invariant.1 has most) (omega arith) (omega arith) most c.in_err-save_sector.ensures.saves))
 
 pub loop-sector-preserved : goal.loop-sector-preserved
 loop-sector-preserved g c = (
   may_then c.loop-sector.invariant.0 c.save_sector.ensures.may,
-  λ has most.
-      let w = crew_of g.L.Layout.geometry c.args.self.now in
-      let v = c.args.self.now in
-      let P = InSlots v.head.backup in
-      let so : Going w P (g.S.Shelf.meaning c.args.shelf.now) (g.S.Shelf.meaning c.loop-sector.shelf) = record { may = c.loop-sector.invariant.0; goes = c.loop-sector.invariant.1 has most } in
-      let now = size_kept (homes_of g.L.Layout.geometry v) (g.L.Layout.geometry v.source) (g.L.Layout.geometry v.target) v.head.backup v.head.size so has in
-      let s = c.in_ok-save_sector.ensures.ends (now.each c.loop-sector.sector (omega arith)) in
-      (going_then so s.0 s.1).goes,
+  λ has most. save_next (g.met.L.Layout.lawful c.args.self.now.source) (g.met.L.Layout.lawful c.args.self.now.target) (omega arith) most
+      (saves_at (c.loop-sector.invariant.1 has most) (omega arith) (omega arith) most c.in_ok-save_sector.ensures.saves),
 )
 
 pub returns-clause-may : goal.returns-clause-may
@@ -40,11 +44,8 @@ returns-clause-may g c = may_then c.loop-sector.invariant.0 (quiet (stage_may _ 
 
 pub returns-clause-ends : goal.returns-clause-ends
 returns-clause-ends g c = λ has most.
-    let w = crew_of g.L.Layout.geometry c.args.self.now in
-    let v = c.args.self.now in
-    let a = g.S.Shelf.meaning c.args.shelf.now in
-    let P = InSlots v.head.backup in
-    let b = g.S.Shelf.meaning c.loop-sector.shelf in
-    let d = g.S.Shelf.meaning c.flush_all.new.shelf in
-    let so : Going w P a b = record { may = c.loop-sector.invariant.0; goes = c.loop-sector.invariant.1 has most } in
-    ends_after reads_and_writes d so c.flush_all.result (stage_ends w _ P nothing _ b d _ (no_plan P) (on_sector Flush refl b 0) c.flush_all.result c.flush_all.ensures)
+    slots_done c.loop-sector.sector (g.S.Shelf.meaning c.flush_all.new.shelf) (c.loop-sector.invariant.1 has most) c.flush_all.result c.flush_all.ensures
+
+pub returns-clause-saves : goal.returns-clause-saves
+returns-clause-saves g c = λ has most can some.
+    save_done c.loop-sector.sector (g.S.Shelf.meaning c.flush_all.new.shelf) (omega arith) (c.loop-sector.invariant.1 has most) can c.flush_all.result c.flush_all.ensures

@@ -1,6 +1,6 @@
 use Rattle.std.proofs.Common.{rules}
 use Rattle.stage.proofs.Leading.{read_as}
-use Rattle.stage.proofs.heads.head_of.Goals as goal
+use Rattle.stage.proofs.heads.read_head.Goals as goal
 
 pub returns-in-Ok-clause-read : goal.returns-in-Ok-clause-read
 returns-in-Ok-clause-read g c = (
