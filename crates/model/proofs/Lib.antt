@@ -1,4 +1,5 @@
 pub mod Carrying
+pub mod Clearing
 pub mod Mays
 pub mod Plainly
 pub mod Readable

@@ -57,7 +57,7 @@ look_saved v i a b d x r has s put =
       given = seen_later (λ m. content_of v m i) x (stage_may _ _ _ r put)
           (seen v.crew (λ m. content_of v m i) x (content_seen v i) here (record { may = s.0; goes = s.1 }) s.2);
       stage = stage_after (AtSector slot x) (AtSector slot x) (OnSector Write b slot) (OnMember reads_and_writes a) (λ u. WrittenAll slot x d) (λ u. WrittenAll slot x d)
-          (quiet s.0) s.1 (λ k n y p. p) (λ f n. member_same s.0 f (on_sector Write refl b slot f n)) (λ u m go w. w) r put;
+          (quiet s.0) s.1 (λ k n y p. p) (λ f n. member_same s.0 f (on_sector Write refl b slot f n)) (λ u m w. w) r put;
     }
 
 -- So many sectors from the first on are saved, by contents that members gave meanwhile.
