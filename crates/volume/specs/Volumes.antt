@@ -10,7 +10,7 @@ use Rattle.layout.specs.Geometry.{Geometry, capacity}
 use Rattle.layout.specs.declared.label.Label.{Label}
 use Rattle.overlap.specs.Needs.{distance_of}
 use Rattle.shelf.specs.Meaning.{Meaning}
-use Rattle.model.specs.Answers.{CreateMet, Ended, HeadLeft, TurnedAway}
+use Rattle.model.specs.Answers.{Came, CreateMet, Ended, HeadLeft, TurnedAway}
 use Rattle.model.specs.Crew.{crew}
 use Rattle.model.specs.Effects.{First, HeadAfter, Rearmed, known_after}
 use Rattle.model.specs.Ends.{GoesOn, Met}
@@ -73,6 +73,12 @@ abbrev pub CallEnds : {S L A : Type 0} → (S → Meaning) → (L → Geometry) 
     → (v w : Volume S L) → Result A Refused → Type 0
 CallEnds mean place name verdict out r same v w result =
     Ended verdict same out r (name (target_of v)) (known place v) (head_of v) (mean (shelf_of v)) (known place w) (head_of w) (mean (shelf_of w)) result
+
+-- the same with what it made of every sector
+abbrev pub CallCame : {S L A : Type 0} → (S → Meaning) → (L → Geometry) → (L → Label) → Option Refusal → (A → Handed) → Request → (same : Type 0)
+    → (v w : Volume S L) → Result A Refused → Type 0
+CallCame mean place name verdict out r same v w result =
+    Came verdict same out r (name (target_of v)) (known place v) (head_of v) (mean (shelf_of v)) (known place w) (head_of w) (mean (shelf_of w)) result
 
 -- a checkpoint of v that left w, of which nothing changed but the head and the shelf
 pub record CheckpointOf {S L : Type 0} (mean : S → Meaning) (place : L → Geometry) (label : Label) (progress : Progress) (armed : Option ℕ) (v w : Volume S L)

@@ -16,7 +16,7 @@ ghost use Rattle.model.specs.Opening.{Restarted};
 ghost use Rattle.model.specs.Verdicts.{RefusedBy, ShutsBy, begin_verdict, copy_verdict, create_verdict, emptied, finish_verdict, hand_back_verdict, is_hand, keep_verdict, read_verdict, settle_verdict, write_verdict};
 ghost use Rattle.stage.specs.Endings.{HasVolume};
 ghost use Rattle.volume.specs.TakingUp.{LetPass, TookUp, WentOn};
-ghost use Rattle.volume.specs.Volumes.{Alike, CallEnds, Carried, CheckpointOf, Housed, KeepEnds, LaidOut, OnlyHand, OnlyShelf, SameLayouts, StaysHoused, distance_in, hand_of, head_of, known, phase_of, granted_row, rowed, shelf_of, source_of, target_of};
+ghost use Rattle.volume.specs.Volumes.{Alike, CallCame, CallEnds, Carried, CheckpointOf, Housed, KeepEnds, LaidOut, OnlyHand, OnlyShelf, SameLayouts, StaysHoused, distance_in, hand_of, head_of, known, phase_of, granted_row, rowed, shelf_of, source_of, target_of};
 
 pub mod grant;
 mod judge;
@@ -148,7 +148,7 @@ impl<S: Shelf, L: Layout> Volume<S, L> {
     // Reads a sector; where it is refused the buffer stays as it was.
     pub fn read(&mut self, sector: u64, buffer: &mut [u8]) -> Result<(), Refused>
         ensures verdict { RefusedBy (read_verdict (known L.geometry self.old) (S.meaning (shelf_of self.old)) sector (length buffer.old)) (self.new ≡ self.old) result }
-        ensures ends { Housed (known L.geometry self.old) (S.meaning (shelf_of self.old)) → CallEnds S.meaning L.geometry L.named (read_verdict (known L.geometry self.old) (S.meaning (shelf_of self.old)) sector (length buffer.old)) (λ u. Buffer buffer.new) (Read sector) (self.new ≡ self.old) self.old self.new result }
+        ensures ends { Housed (known L.geometry self.old) (S.meaning (shelf_of self.old)) → CallCame S.meaning L.geometry L.named (read_verdict (known L.geometry self.old) (S.meaning (shelf_of self.old)) sector (length buffer.old)) (λ u. Buffer buffer.new) (Read sector) (self.new ≡ self.old) self.old self.new result }
         ensures housed { StaysHoused S.meaning L.geometry self.old self.new }
         ensures buffer { OnErr result (buffer.new ≡ buffer.old) }
         ensures writes { May nothing (S.meaning (shelf_of self.old)) (S.meaning (shelf_of self.new)) }
@@ -177,7 +177,7 @@ impl<S: Shelf, L: Layout> Volume<S, L> {
 
     // Starts the move to the target, and answers the overlap distance.
     pub fn begin(&mut self) -> Result<u64, Refused>
-        ensures ends { CallEnds S.meaning L.geometry L.named (begin_verdict (L.named (target_of self.old)) (known L.geometry self.old) (S.meaning (shelf_of self.old))) (λ d. Distance d) Begin (self.new ≡ self.old) self.old self.new result }
+        ensures ends { CallCame S.meaning L.geometry L.named (begin_verdict (L.named (target_of self.old)) (known L.geometry self.old) (S.meaning (shelf_of self.old))) (λ d. Distance d) Begin (self.new ≡ self.old) self.old self.new result }
         ensures housed { StaysHoused S.meaning L.geometry self.old self.new }
     {
         let distance = self.judge_begin()?;
@@ -216,7 +216,7 @@ impl<S: Shelf, L: Layout> Volume<S, L> {
     // Makes the granted row the home of its sectors. A grant of the row in hand empties the hand in any case.
     pub fn settle(&mut self, grant: Grant) -> Result<(), Refused>
         ensures verdict { RefusedBy (settle_verdict (known L.geometry self.old) (S.meaning (shelf_of self.old)) (granted_row grant)) (OnlyHand self.old self.new (emptied (hand_of self.old) (granted_row grant))) result }
-        ensures ends { Housed (known L.geometry self.old) (S.meaning (shelf_of self.old)) → CallEnds S.meaning L.geometry L.named (settle_verdict (known L.geometry self.old) (S.meaning (shelf_of self.old)) (granted_row grant)) (λ u. Nothing) (Settle (granted_row grant)) (OnlyHand self.old self.new (emptied (hand_of self.old) (granted_row grant))) self.old self.new result }
+        ensures ends { Housed (known L.geometry self.old) (S.meaning (shelf_of self.old)) → CallCame S.meaning L.geometry L.named (settle_verdict (known L.geometry self.old) (S.meaning (shelf_of self.old)) (granted_row grant)) (λ u. Nothing) (Settle (granted_row grant)) (OnlyHand self.old self.new (emptied (hand_of self.old) (granted_row grant))) self.old self.new result }
         ensures housed { StaysHoused S.meaning L.geometry self.old self.new }
     {
         let row = grant.spend();
@@ -229,7 +229,7 @@ impl<S: Shelf, L: Layout> Volume<S, L> {
 
     // Gives a grant back; its row is copied again later.
     pub fn hand_back(&mut self, grant: Grant) -> Result<(), Refused>
-        ensures ends { CallEnds S.meaning L.geometry L.named (hand_back_verdict (known L.geometry self.old) (granted_row grant)) (λ u. Nothing) (HandBack (granted_row grant)) (OnlyHand self.old self.new (emptied (hand_of self.old) (granted_row grant))) self.old self.new result }
+        ensures ends { CallCame S.meaning L.geometry L.named (hand_back_verdict (known L.geometry self.old) (granted_row grant)) (λ u. Nothing) (HandBack (granted_row grant)) (OnlyHand self.old self.new (emptied (hand_of self.old) (granted_row grant))) self.old self.new result }
         ensures housed { StaysHoused S.meaning L.geometry self.old self.new }
         ensures hand { OnlyHand self.old self.new (emptied (hand_of self.old) (granted_row grant)) }
     {
@@ -242,7 +242,7 @@ impl<S: Shelf, L: Layout> Volume<S, L> {
 
     // Ends the move: the target is the volume's layout from here on.
     pub fn finish(&mut self) -> Result<Finished, Refused>
-        ensures ends { CallEnds S.meaning L.geometry L.named (finish_verdict (known L.geometry self.old) (S.meaning (shelf_of self.old))) (λ f. Counts f.rows f.kept) Finish (self.new ≡ self.old) self.old self.new result }
+        ensures ends { CallCame S.meaning L.geometry L.named (finish_verdict (known L.geometry self.old) (S.meaning (shelf_of self.old))) (λ f. Counts f.rows f.kept) Finish (self.new ≡ self.old) self.old self.new result }
         ensures housed { StaysHoused S.meaning L.geometry self.old self.new }
     {
         self.judge_finish()?;

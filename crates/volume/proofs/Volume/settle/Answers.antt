@@ -1,7 +1,7 @@
 use Rattle.std.proofs.Common.{◌≤◌, sym, subst}
 use Rattle.head.specs.Heads.{settled_rows}
 use Rattle.volume.specs.Volumes.{known}
-use Rattle.volume.proofs.Ending.{settle_ends}
+use Rattle.volume.proofs.Coming.{settle_ends}
 use Rattle.volume.proofs.Settling.{settle_housed}
 use Rattle.volume.proofs.Housing.{housed_moving, next_below}
 use Rattle.volume.proofs.Volume.settle.Goals as goal
