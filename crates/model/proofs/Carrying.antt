@@ -1,5 +1,5 @@
 -- Steps that are carried out, and what they make of sectors and of places.
-use Rattle.std.proofs.Common.{◌≡◌, ℕ, ◌+◌, ◌-◌, ◌<◌, ◌≤◌, Bool, true, ◌&&◌, ◌⊎◌, ◌==◌, nat_le, nat_lt, List, sym, ap, ◌∙◌, inl, inr, arith}
+use Rattle.std.proofs.Common.{◌≡◌, ℕ, ◌+◌, ◌-◌, ◌<◌, Bool, true, ◌&&◌, ◌⊎◌, ◌==◌, nat_le, nat_lt, List, refl, sym, ap, ◌∙◌, subst, inl, inr, arith}
 use Rattle.std.proofs.lemmas.Bool.{and_from, and_parts, cases_Bool, cond-false, cond-true, eq-eqb, le-leb, leb-true, lt-ltb, ne_eqb}
 use Rattle.head.specs.declared.TheConstants.{SLOTS_AT}
 use Rattle.layout.specs.Geometry.{Geometry, Is, place_of}
@@ -49,49 +49,51 @@ in_body_at g law backup o k s c =
     and_from (nat_lt k g.members) _ (lt-ltb k g.members (omega (arith, member, at)))
     (and_from (nat_le (SLOTS_AT + backup) s) _ (le-leb (SLOTS_AT + backup) s (omega (arith, sector))) (lt-ltb s (SLOTS_AT + backup + g.depth) (omega (arith, offset, sector))))
 
+-- the owner of a cell
+pub cell_owner : (g : Geometry) → Lawful g → (backup : ℕ) (o : Owner) (k s : ℕ) → CellOf g backup o k s → g.owner (k, s - (SLOTS_AT + backup)) ≡ o
+cell_owner g law backup o k s c =
+    let sector = c.sector in
+    let offset : s - (SLOTS_AT + backup) ≡ (place_of g o).1 = omega (arith, sector) in
+    ap (λ j. g.owner (j, s - (SLOTS_AT + backup))) c.member ∙ (ap (λ t. g.owner ((place_of g o).0, t)) offset ∙ law.placing.back o c.is)
+
 -- at the place of an owner a step on places does what it does for that owner
 pub placed_at : (g : Geometry) → Lawful g → (backup : ℕ) (F : Owner → List ℕ → List ℕ) (f : Image) (o : Owner) (k s : ℕ) → CellOf g backup o k s
     → with_places g backup F f k s ≡ F o (f k s)
 placed_at g law backup F f o k s c =
-    let sector = c.sector in
-    let offset : s - (SLOTS_AT + backup) ≡ (place_of g o).1 = omega (arith, sector) in
     cond-true (in_body g backup k s) (F (g.owner (k, s - (SLOTS_AT + backup))) (f k s)) (f k s) (in_body_at g law backup o k s c)
-    ∙ ap (λ q. F q (f k s)) (ap (λ j. g.owner (j, s - (SLOTS_AT + backup))) c.member ∙ (ap (λ t. g.owner ((place_of g o).0, t)) offset ∙ law.placing.back o c.is))
+    ∙ ap (λ q. F q (f k s)) (cell_owner g law backup o k s c)
+
+-- whoever owns a place, or nobody does
+place_cell : (g : Geometry) (backup m n : ℕ) (o : Owner) → Is g o → place_of g o ≡ (m, n) → CellOf g backup o m (SLOTS_AT + backup + n)
+place_cell g backup m n o is at = record {
+  is = is;
+  member = ap (λ (p : ℕ × ℕ). p.0) (sym at);
+  sector = ap (λ (p : ℕ × ℕ). SLOTS_AT + backup + p.1) (sym at);
+}
+
+owned_cell : (g : Geometry) (backup m n : ℕ) (o : Owner) → Owns g (m, n) o → CellOf g backup o m (SLOTS_AT + backup + n) ⊎ (o ≡ Nobody)
+owned_cell g backup m n (Datum i j) owns = inl (place_cell g backup m n (Datum i j) owns.0 owns.1)
+owned_cell g backup m n (Parity x) owns = inl (place_cell g backup m n (Parity x) owns.0 owns.1)
+owned_cell g backup m n Nobody owns = inr refl
+
+pub cell_at : (g : Geometry) → Lawful g → (backup m n : ℕ) → CellOf g backup (g.owner (m, n)) m (SLOTS_AT + backup + n) ⊎ (g.owner (m, n) ≡ Nobody)
+cell_at g law backup m n = owned_cell g backup m n (g.owner (m, n)) (law.placing.owned (m, n))
 
 -- so each cell is that of an owner, or stays
-abbrev Placed : Geometry → ℕ → (Owner → List ℕ → List ℕ) → Image → ℕ → ℕ → Type 0
-Placed g backup F f k s = ((o : Owner) × CellOf g backup o k s) ⊎ (with_places g backup F f k s ≡ f k s)
-
-abbrev Owned : Geometry → ℕ → ℕ → ℕ → Type 0
-Owned g backup k s = (SLOTS_AT + backup ≤ s) × Owns g (k, s - (SLOTS_AT + backup)) (g.owner (k, s - (SLOTS_AT + backup)))
-
-owned_by : (g : Geometry) (backup k s : ℕ) (F : Owner → List ℕ → List ℕ) (f : Image) → ((x : List ℕ) → F Nobody x ≡ x) → (o : Owner) → SLOTS_AT + backup ≤ s
-    → Owns g (k, s - (SLOTS_AT + backup)) o → with_places g backup F f k s ≡ F o (f k s) → Placed g backup F f k s
-owned_by g backup k s F f idle (Datum i j) first owns e =
-    (let member : k ≡ (g.datum i j).0 = ap (λ (p : ℕ × ℕ). p.0) (sym owns.1) in
-    let offset : s - (SLOTS_AT + backup) ≡ (g.datum i j).1 = ap (λ (p : ℕ × ℕ). p.1) (sym owns.1) in
-    inl (Datum i j, record { is = owns.0; member = member; sector = omega (arith, first, offset) }))
-owned_by g backup k s F f idle (Parity x) first owns e =
-    (let member : k ≡ (g.parity x).0 = ap (λ (p : ℕ × ℕ). p.0) (sym owns.1) in
-    let offset : s - (SLOTS_AT + backup) ≡ (g.parity x).1 = ap (λ (p : ℕ × ℕ). p.1) (sym owns.1) in
-    inl (Parity x, record { is = owns.0; member = member; sector = omega (arith, first, offset) }))
-owned_by g backup k s F f idle Nobody first owns e = inr (e ∙ idle (f k s))
-
 pub placed_by : (g : Geometry) → Lawful g → (backup : ℕ) (F : Owner → List ℕ → List ℕ) (f : Image) → ((x : List ℕ) → F Nobody x ≡ x) → (k s : ℕ)
     → ((o : Owner) × CellOf g backup o k s) ⊎ (with_places g backup F f k s ≡ f k s)
 placed_by g law backup F f idle k s = elim (cases_Bool (in_body g backup k s)) [
   | inl inside ↦ (let parts = and_parts (nat_lt k g.members) _ inside in
       let first = leb-true (SLOTS_AT + backup) s (and_parts (nat_le (SLOTS_AT + backup) s) _ parts.1).0 in
-      owned_by g backup k s F f idle (g.owner (k, s - (SLOTS_AT + backup))) first (law.placing.owned (k, s - (SLOTS_AT + backup)))
-      (cond-true (in_body g backup k s) (F (g.owner (k, s - (SLOTS_AT + backup))) (f k s)) (f k s) inside))
+      let n = s - (SLOTS_AT + backup) in
+      let at : SLOTS_AT + backup + n ≡ s = omega (arith, first) in
+      elim (cell_at g law backup k n) [
+        | inl c ↦ inl (g.owner (k, n), subst (CellOf g backup (g.owner (k, n)) k) at c)
+        | inr none ↦ inr (cond-true (in_body g backup k s) (F (g.owner (k, n)) (f k s)) (f k s) inside ∙ (ap (λ q. F q (f k s)) none ∙ idle (f k s)))
+      ])
   | inr outside ↦ inr (cond-false (in_body g backup k s) (F (g.owner (k, s - (SLOTS_AT + backup))) (f k s)) (f k s) outside)
 ]
 
 -- no two owners have the same cell
 pub one_owner : (g : Geometry) → Lawful g → (backup : ℕ) (o q : Owner) (k s : ℕ) → CellOf g backup o k s → CellOf g backup q k s → o ≡ q
-one_owner g law backup o q k s c d =
-    let sector = c.sector in
-    let other = d.sector in
-    let offset : (place_of g o).1 ≡ (place_of g q).1 = omega (arith, sector, other) in
-    let member : (place_of g o).0 ≡ (place_of g q).0 = sym c.member ∙ d.member in
-    sym (law.placing.back o c.is) ∙ (ap (λ j. g.owner (j, (place_of g o).1)) member ∙ (ap (λ t. g.owner ((place_of g q).0, t)) offset ∙ law.placing.back q d.is))
+one_owner g law backup o q k s c d = sym (cell_owner g law backup o k s c) ∙ cell_owner g law backup q k s d

@@ -1,5 +1,7 @@
 pub mod Carrying
+pub mod Clearing
 pub mod Mays
+pub mod Plainly
 pub mod Readable
 pub mod Runs
 pub mod Seeing

@@ -12,6 +12,7 @@ pub mod Images
 pub mod Knowing
 pub mod May
 pub mod Opening
+pub mod Plain
 pub mod Readable
 pub mod Reading
 pub mod Reopening

@@ -3,6 +3,7 @@
 #![tactic(auto)]
 
 ghost use Rattle.model.specs.Histories.{CallByCall, OpensShow};
+ghost use Rattle.model.specs.Plain.{NoCallMet, NoCreateMet, NoOpenMet};
 ghost use Rattle.model.specs.Readable.{EnoughReads};
 ghost use Rattle.model.specs.Worked.{CountExamples, DiskExamples, HomeExamples, OpenExamples, VerdictExamples};
 ghost use Rattle.model.specs.WorkedAnswers.{AnswerExamples, MakingAnswers};
@@ -49,4 +50,11 @@ pub fn runs_call_by_call()
 // Members that are enough by the count of the absent ones have every sector of a layout.
 pub fn enough_reads()
     ensures { EnoughReads }
+{}
+
+// On a plain shelf, which stays on and loses no member, no call is met: one that its verdict does not refuse is done.
+pub fn plain_calls_are_not_met()
+    ensures calls { NoCallMet }
+    ensures creates { NoCreateMet }
+    ensures opens { NoOpenMet }
 {}

@@ -15,7 +15,9 @@ mod tally;
 mod tries;
 
 use anyhow::ensure;
-use model::{enough_reads, runs_call_by_call, worked_examples, worked_runs};
+use model::{
+    enough_reads, plain_calls_are_not_met, runs_call_by_call, worked_examples, worked_runs,
+};
 use moves::Move;
 use overlap::need_is_highest;
 use pattern::rubbish;
@@ -101,6 +103,7 @@ fn theorems() {
     runs_call_by_call();
     need_is_highest();
     enough_reads();
+    plain_calls_are_not_met();
     relation_stands();
     controls_stand();
 }

@@ -8,12 +8,13 @@ use Rattle.shelf.specs.Meaning.{Meaning}
 use Rattle.model.specs.Crew.{Crew}
 use Rattle.model.specs.Ends.{GoesOn, Met, Stage}
 use Rattle.model.specs.Faults.{NamesSector, OnCell, OnSector}
-use Rattle.model.specs.May.{AtSector, InSlots, May, nothing}
+use Rattle.model.specs.May.{AtSector, InSlots, May, OneFrom, nothing}
 use Rattle.overlap.specs.declared.walk.Home.{Home}
 use Rattle.overlap.specs.declared.walk.Home.TheVariants.{Source, Target, Backup}
 use Rattle.layout.specs.Geometry.{Geometry}
 use Rattle.stage.specs.Endings.{HasSize, OnMember, StageEnds, only_writes, reads_and_writes}
 use Rattle.stage.specs.Looks.{HomeHas, OnBody, OnHome}
+use Rattle.stage.specs.Places.{AtPlace}
 use Rattle.stage.proofs.Places.{use_kept}
 use Rattle.stage.proofs.Chains.{names_as}
 use Rattle.stage.proofs.Loops.{goes_then, names_same, was_present}
@@ -101,6 +102,9 @@ pub on_home : {does : Operation → Bool} (op : Operation) → does op ≡ true 
 on_home op o backup i a f n = elim n [ inl p ↦ on_body op o backup a f p | inr p ↦ on_sector op o a _ f p ]
 
 -- plans
+pub place_plan : (backup : ℕ) (p : ℕ × ℕ) (c : List ℕ) (k s : ℕ) (x : List ℕ) → AtPlace backup p c k s x → OneFrom (3 + backup) c k s x
+place_plan backup p c k s x at = record { sector = at.sector; content = at.content }
+
 pub same_plan : (P : ℕ → ℕ → List ℕ → Type 0) (k s : ℕ) (x : List ℕ) → P k s x → P k s x
 same_plan P k s x p = p
 

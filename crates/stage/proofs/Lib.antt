@@ -1,4 +1,5 @@
 pub mod Chains
+pub mod Clearing
 pub mod Crews
 pub mod Earlier
 pub mod Endings

@@ -1,5 +1,5 @@
 -- Steps on their way: what is written of them, and the flush that carries them out.
-use Rattle.std.proofs.Common.{◌≡◌, ℕ, ◌<◌, true, ◌⊎◌, List, Ok, Err, Result, sym, ap, ◌∙◌, inl, inr, arith}
+use Rattle.std.proofs.Common.{◌≡◌, ℕ, ◌⊎◌, List, Ok, Err, Result, sym, ap, ◌∙◌, inl, inr, arith}
 use Rattle.std.proofs.lemmas.Bool.{cases_eq}
 use Rattle.answer.specs.declared.Fault.{Fault}
 use Rattle.answer.specs.declared.Operation.TheVariants.{Flush}
@@ -14,12 +14,9 @@ use Rattle.model.specs.Steps.{Passed, Step, Torn}
 use Rattle.model.proofs.Carrying.{carried, sector_left}
 use Rattle.model.proofs.Mays.{may_refl, may_then, may_wider, quiet}
 use Rattle.stage.specs.Done.{FlushedAll, WrittenAll}
+use Rattle.stage.specs.Endings.{MadeAt}
 use Rattle.stage.proofs.Chains.{names_as, sector_same}
 use Rattle.stage.proofs.Loops.{goes_then, was_present}
-
--- The cell is as the step makes it of a, where its member is there.
-abbrev pub MadeAt : Step → (a b : Meaning) → (k s : ℕ) → Type 0
-MadeAt f a b k s = b.present k ≡ true → s < b.sectors → b.current k s ≡ f a.current k s
 
 -- a step that was begun: it is torn at most, and the cells of which D holds are as it makes them
 pub record Begun (w : Crew) (f : Step) (D : ℕ → ℕ → Type 0) (a b : Meaning) : Type 0 where
@@ -27,8 +24,8 @@ pub record Begun (w : Crew) (f : Step) (D : ℕ → ℕ → Type 0) (a b : Meani
   pub goes : GoesOn w a b
   pub made : (k s : ℕ) → D k s → MadeAt f a b k s
 
-pub not_begun : (w : Crew) (f : Step) (a : Meaning) → Begun w f (λ k s. ⊥) a a
-not_begun w f a = record { may = may_refl a; goes = record { on = λ e. e; enough = λ e. e }; made = λ k s d. absurd d }
+pub not_begun : (w : Crew) (f : Step) (D : ℕ → ℕ → Type 0) (a : Meaning) → ((k s : ℕ) → D k s → ⊥) → Begun w f D a a
+not_begun w f D a nowhere = record { may = may_refl a; goes = record { on = λ e. e; enough = λ e. e }; made = λ k s d. absurd (nowhere k s d) }
 
 -- a cell stays as the step makes it while the step is written on
 pub made_stays : (f : Step) (a : Meaning) {b c : Meaning} (k s : ℕ) → MadeAt f a b k s → May (λ k s x. x ≡ f a.current k s) b c → MadeAt f a c k s
@@ -46,13 +43,14 @@ begun_more {w} {f} {D} E {a} c so m goes each = record {
   made = λ k s e. elim (each k s e) [ inl d ↦ made_stays f a k s (so.made k s d) m | inr made ↦ made ];
 }
 
+-- what is torn by a step, but stands where the step leaves it, is as the step makes it
+pub made_left : (f : Step) {a b : Meaning} → Torn f a b → (k s : ℕ) → f a.current k s ≡ a.current k s → MadeAt f a b k s
+made_left f torn k s left there lt = elim (torn.current k s) [ inl same ↦ same ∙ sym left | inr made ↦ made ]
+
 -- where a step was made, or leaves what was there, all is as it makes it
 pub made_all : {w : Crew} {f : Step} {D : ℕ → ℕ → Type 0} {a b : Meaning} → Begun w f D a b → ((k s : ℕ) → D k s ⊎ (f a.current k s ≡ a.current k s))
     → (k s : ℕ) → MadeAt f a b k s
-made_all so covers k s there lt = elim (covers k s) [
-  | inl d ↦ so.made k s d there lt
-  | inr left ↦ elim (so.may.current k s) [ inl same ↦ same ∙ sym left | inr made ↦ made ]
-]
+made_all {w} {f} so covers k s there lt = elim (covers k s) [ inl d ↦ so.made k s d there lt | inr left ↦ made_left f so.may k s left there lt ]
 
 -- written wherever it writes, and then flushed: carried out
 pub carried_after : {w : Crew} {f : Step} {D : ℕ → ℕ → Type 0} {a b : Meaning} (d : Meaning) (G : Fault → Type 0) → Begun w f D a b

@@ -4,5 +4,6 @@ pub mod Checkpoint
 pub mod Done
 pub mod Endings
 pub mod Looks
+pub mod Places
 pub mod Rows
 pub mod Walks

@@ -9,7 +9,8 @@ ghost use Rattle.model.specs.May.{AtSector, EitherPlan, From, May, OneFrom};
 ghost use Rattle.model.specs.Readable.{InUse};
 ghost use Rattle.stage.specs.Arrays.{crew_of};
 ghost use Rattle.stage.specs.Done.{WrittenAll};
-ghost use Rattle.stage.specs.Endings.{Carries, StageEnds, only_writes, reads_and_writes};
+ghost use Rattle.stage.specs.Endings.{Carries, OnMember, StageEnds, only_writes, reads_and_writes};
+ghost use Rattle.stage.specs.Places.{AtPlace, PlaceHolds};
 
 use crate::array::Array;
 use answer::Refused;
@@ -117,7 +118,7 @@ impl<L: Layout> Array<L> {
         place: Place,
         content: &Sector,
     ) -> Result<(), Refused>
-        ensures { StageEnds (crew_of L.geometry self.now) only_writes (OneFrom (SLOTS_AT + self.now.head.backup) content.now) (S.meaning shelf.old) (S.meaning shelf.new) result }
+        ensures { let backup = self.now.head.backup in Stage (crew_of L.geometry self.now) (AtPlace backup place content.now) (OnMember only_writes (S.meaning shelf.old)) (S.meaning shelf.old) (S.meaning shelf.new) (λ _. PlaceHolds backup place content.now (S.meaning shelf.new)) result }
     {
         let (member, offset) = place;
         self.write_at(shelf, member, self.body().saturating_add(offset), content)

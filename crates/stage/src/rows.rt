@@ -1,11 +1,14 @@
 // Whole rows: saved into the backup slots, placed in the target, or cleared.
-ghost use Rattle.std.specs.Prelude.{◌≡◌, ◌+◌, ◌<◌, ◌≤◌, replicate, Ok, None};
+ghost use Rattle.std.specs.Prelude.{◌≡◌, ℕ, ◌+◌, ◌<◌, ◌≤◌, replicate, Ok, None};
 ghost use Rattle.sector.specs.declared.TheConstants.{SECTOR};
 ghost use Rattle.head.specs.declared.TheConstants.{SLOTS_AT};
-ghost use Rattle.model.specs.May.{From, InSlots, May, OneFrom, nothing};
+ghost use Rattle.model.specs.Ends.{Stage};
+ghost use Rattle.model.specs.Images.{created_over};
+ghost use Rattle.model.specs.May.{From, InSlots, May, nothing};
 ghost use Rattle.stage.specs.Arrays.{crew_of, volume_on};
-ghost use Rattle.stage.specs.Endings.{HasVolume, StageEnds, only_writes, reads_and_writes};
+ghost use Rattle.stage.specs.Endings.{Carries, HasVolume, MadeAt, OnMember, StageEnds, only_writes, reads_and_writes};
 ghost use Rattle.stage.specs.Looks.{HomeHas, homes_of};
+ghost use Rattle.stage.specs.Places.{AtPlace, PlaceHolds};
 ghost use Rattle.stage.specs.Rows.{Savable, SavesBy, SavesSector};
 
 use crate::array::Array;
@@ -104,7 +107,7 @@ impl<L: Layout> Array<L> {
 
     // Zeroes every place of the source that has an owner, and persists it.
     pub fn clear<S: Shelf>(&self, shelf: &mut S) -> Result<(), Refused>
-        ensures { StageEnds (crew_of L.geometry self.now) only_writes (OneFrom (SLOTS_AT + self.now.head.backup) (replicate SECTOR 0)) (S.meaning shelf.old) (S.meaning shelf.new) result }
+        ensures { Carries (crew_of L.geometry self.now) only_writes (created_over (L.geometry self.now.source) self.now.head.backup) (S.meaning shelf.old) (S.meaning shelf.new) result }
     {
         for member in 0..self.source.members() {
             self.clear_member(shelf, member)?;
@@ -113,7 +116,7 @@ impl<L: Layout> Array<L> {
     }
 
     fn clear_member<S: Shelf>(&self, shelf: &mut S, member: u64) -> Result<(), Refused>
-        ensures { StageEnds (crew_of L.geometry self.now) only_writes (OneFrom (SLOTS_AT + self.now.head.backup) (replicate SECTOR 0)) (S.meaning shelf.old) (S.meaning shelf.new) result }
+        ensures { let a = S.meaning shelf.old in let f = created_over (L.geometry self.now.source) self.now.head.backup in Stage (crew_of L.geometry self.now) (λ k s x. x ≡ f a.current k s) (OnMember only_writes a) a (S.meaning shelf.new) (λ _. (s : ℕ) → MadeAt f a (S.meaning shelf.new) member s) result }
     {
         for offset in 0..self.source.depth() {
             if self.source.owner((member, offset)) == Owner::Nobody {
@@ -125,7 +128,7 @@ impl<L: Layout> Array<L> {
     }
 
     fn clear_place<S: Shelf>(&self, shelf: &mut S, place: Place) -> Result<(), Refused>
-        ensures { StageEnds (crew_of L.geometry self.now) only_writes (OneFrom (SLOTS_AT + self.now.head.backup) (replicate SECTOR 0)) (S.meaning shelf.old) (S.meaning shelf.new) result }
+        ensures { let backup = self.now.head.backup in Stage (crew_of L.geometry self.now) (AtPlace backup place (replicate SECTOR 0)) (OnMember only_writes (S.meaning shelf.old)) (S.meaning shelf.old) (S.meaning shelf.new) (λ _. PlaceHolds backup place (replicate SECTOR 0) (S.meaning shelf.new)) result }
     {
         self.write_place(shelf, place, &zeros())
     }

@@ -1,9 +1,8 @@
-use Rattle.std.proofs.Common.{◌+◌, replicate}
-use Rattle.model.specs.May.{OneFrom}
 use Rattle.stage.specs.Arrays.{crew_of}
-use Rattle.stage.proofs.Endings.{Going}
+use Rattle.stage.proofs.Clearing.{MembersCleared}
 use Rattle.stage.proofs.array.Array.clear.Given as goal
 
 abbrev pub invariant-loop-member : goal.invariant-loop-member
 invariant-loop-member g l =
-    Going (crew_of g.L.Layout.geometry l.self) (OneFrom (3 + l.self.head.backup) (replicate 512 0)) (g.S.Shelf.meaning l.initial.shelf) (g.S.Shelf.meaning l.shelf)
+    MembersCleared (crew_of g.L.Layout.geometry l.self) (g.L.Layout.geometry l.self.source) l.self.head.backup l.member
+    (g.S.Shelf.meaning l.initial.shelf) (g.S.Shelf.meaning l.shelf)

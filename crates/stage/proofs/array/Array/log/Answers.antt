@@ -26,7 +26,7 @@ returns-in_err-write_all-2 g c =
     let b = g.S.Shelf.meaning c.write_all.new.shelf in
     let d = g.S.Shelf.meaning c.write_all-2.new.shelf in
     let s = c.in_ok-write_all.ensures in
-    let so = sector_written 1 c.args.entry.datum.now b (not_begun w f a) (λ k. refl) s.0 s.1 s.2 in
+    let so = sector_written 1 c.args.entry.datum.now b (not_begun w f (λ k s. ⊥) a (λ k s d. d)) (λ k. refl) s.0 s.1 s.2 in
     handed_on (λ r. Carries w only_writes f a d r) c.from_residual-in_err-write_all-2.result _ c.from_residual-in_err-write_all-2.ensures.1
     (met_after d (record { may = so.may; goes = so.goes }) _ (met_ends w only_writes (λ k s x. x ≡ f a.current k s) _ _ b d
     (sector_planned_by f 2 c.args.entry.parity.now a (λ k. refl)) (on_sector Write refl b 2) _ c.in_err-write_all-2.ensures))
@@ -40,7 +40,7 @@ returns g c =
     let a = g.S.Shelf.meaning c.args.shelf.now in
     let s = c.in_ok-write_all.ensures in
     let t = c.in_ok-write_all-2.ensures in
-    let one = sector_written 1 datum (g.S.Shelf.meaning c.write_all.new.shelf) (not_begun w f a) (λ k. refl) s.0 s.1 s.2 in
+    let one = sector_written 1 datum (g.S.Shelf.meaning c.write_all.new.shelf) (not_begun w f (λ k s. ⊥) a (λ k s d. d)) (λ k. refl) s.0 s.1 s.2 in
     let both = sector_written 2 parity (g.S.Shelf.meaning c.write_all-2.new.shelf) one (λ k. refl) t.0 t.1 t.2 in
     carried_after (g.S.Shelf.meaning c.flush_all.new.shelf) (OnMember only_writes a) both
     (sector_covers _ 2 parity (with_sector 1 datum a.current) a (sector_covers _ 1 datum a.current a (λ k s. inr refl)))

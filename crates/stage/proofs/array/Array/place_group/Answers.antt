@@ -1,6 +1,6 @@
 use Rattle.std.proofs.Common.{◌+◌}
 use Rattle.model.specs.May.{From, nothing}
-use Rattle.model.proofs.Mays.{from_one, may_then, quiet}
+use Rattle.model.proofs.Mays.{from_one, may_then, may_wider, quiet}
 use Rattle.stage.specs.Arrays.{crew_of}
 use Rattle.stage.specs.Endings.{StageEnds, reads_and_writes}
 use Rattle.stage.specs.Looks.{homes_of}
@@ -61,7 +61,7 @@ loop-index-preserved g c =
     )
 
 pub returns-clause-may : goal.returns-clause-may
-returns-clause-may g c = may_then c.loop-index.invariant.0 (from_one (stage_may _ _ _ c.write_place.result c.write_place.ensures))
+returns-clause-may g c = may_then c.loop-index.invariant.0 (may_wider (λ k s x p. record { sector = p.sector }) (stage_may _ _ _ c.write_place.result c.write_place.ensures))
 
 pub returns-clause-ends : goal.returns-clause-ends
 returns-clause-ends g c = λ has.

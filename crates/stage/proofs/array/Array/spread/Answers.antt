@@ -15,5 +15,5 @@ returns-clause-stage g c =
     let written = c.in_ok-write_all.ensures in
     subst (λ y. Stage w (λ k s x. x ≡ with_sector 0 y a.current k s) (OnHeads a) a d (λ u. Passed w (with_sector 0 y) a d) c.flush_all.result) c.encode.ensures.bytes
     (carried_after d (OnHeads a)
-    (sector_written 0 c.encode.result (g.S.Shelf.meaning c.write_all.new.shelf) (not_begun w (with_sector 0 c.encode.result) a) (λ k. refl) written.0 written.1 written.2)
+    (sector_written 0 c.encode.result (g.S.Shelf.meaning c.write_all.new.shelf) (not_begun w (with_sector 0 c.encode.result) (λ k s. ⊥) a (λ k s d. d)) (λ k. refl) written.0 written.1 written.2)
     (sector_covers (λ k s. ⊥) 0 c.encode.result a.current a (λ k s. inr refl)) (λ f n. inr n) c.flush_all.result c.flush_all.ensures)

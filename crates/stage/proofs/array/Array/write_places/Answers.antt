@@ -4,7 +4,7 @@ use Rattle.stage.specs.Arrays.{crew_of}
 use Rattle.stage.specs.Endings.{StageEnds, only_writes}
 use Rattle.stage.proofs.Chains.{handed_on}
 use Rattle.model.proofs.Mays.{may_wider}
-use Rattle.stage.proofs.Endings.{Going, ends_after, met_ends, stage_ends}
+use Rattle.stage.proofs.Endings.{Going, ends_after, met_ends, place_plan, stage_ends}
 use Rattle.stage.proofs.array.Array.write_places.Goals as goal
 
 pub returns-in_err-write_copies : goal.returns-in_err-write_copies
@@ -27,7 +27,9 @@ returns-in-Some g c =
     let d = g.S.Shelf.meaning c.write_place.new.shelf in
     let s = c.in_ok-write_copies.ensures in
     let so : Going w P a b = record { may = may_wider (λ k t x p. inl p) s.0; goes = s.1 } in
-    ends_after only_writes d so c.write_place.result (stage_ends w _ P _ _ b d _ (λ k t x p. inr p) (λ f n. n) c.write_place.result c.write_place.ensures)
+    ends_after only_writes d so c.write_place.result
+    (stage_ends w _ P _ _ b d _ (λ k t x p. inr (place_plan c.args.self.now.head.backup c.parity.result c.args.entry.parity.now k t x p)) (λ f n. n)
+    c.write_place.result c.write_place.ensures)
 
 pub returns-in-None : goal.returns-in-None
 returns-in-None g c =
