@@ -3,6 +3,7 @@ pub mod Housing
 pub mod Looking
 pub mod Coming
 pub mod Slots
+pub mod Laying
 pub mod Writing
 pub mod Keeping
 pub mod Settling

@@ -13,7 +13,7 @@ use Rattle.overlap.specs.Needs.{distance_of}
 use Rattle.shelf.specs.Meaning.{Meaning}
 use Rattle.model.specs.Answers.{Came, CreateMet, Ended, HeadLeft, TurnedAway}
 use Rattle.model.specs.Crew.{crew}
-use Rattle.model.specs.Effects.{DoneBy, First, HeadAfter, MetBy, Rearmed, known_after}
+use Rattle.model.specs.Effects.{CreateTorn, CreatedBy, DoneBy, First, HeadAfter, MetBy, Rearmed, known_after}
 use Rattle.model.specs.Ends.{GoesOn, Met}
 use Rattle.model.specs.Handed.{Handed}
 use Rattle.model.specs.Knowing.{Volume as Known}
@@ -170,8 +170,10 @@ pub record Founded {S L : Type 0} (mean : S → Meaning) (place : L → Geometry
   pub first : First label size backup w.array.head
   pub phase : w.array.phase ≡ Before
 
--- How a volume was laid out on v's shelf, by its verdict, both ways.
+-- How a volume was laid out on v's shelf, by its verdict, both ways, and what that made of every sector.
 abbrev pub LaidOut : {S L : Type 0} → (S → Meaning) → (L → Geometry) → (L → Label) → Option Refusal → (size backup : ℕ) → (v w : Volume S L) → Result Unit Refused → Type 0
 LaidOut mean place name verdict size backup v w (Ok x) = (verdict ≡ None) × Founded mean place (name v.array.source) size backup v w
+    × CreatedBy (place v.array.source) (name v.array.source) size backup (mean v.shelf) (mean w.shelf) w.array.head
 LaidOut mean place name verdict size backup v w (Err e) =
-    TurnedAway verdict (w ≡ v) e ⊎ CreateMet verdict (place v.array.source) (place v.array.target) (mean v.shelf) (mean w.shelf) e
+    TurnedAway verdict (w ≡ v) e ⊎ (CreateMet verdict (place v.array.source) (place v.array.target) (mean v.shelf) (mean w.shelf) e
+    × CreateTorn (place v.array.source) (name v.array.source) size backup (mean v.shelf) (mean w.shelf))
