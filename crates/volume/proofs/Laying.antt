@@ -1,5 +1,5 @@
 -- A volume that is laid out: zeros, and then the first head.
-use Rattle.std.proofs.Common.{◌≡◌, ℕ, List, None, Ok, Err, Option, Result, inr, refl, subst}
+use Rattle.std.proofs.Common.{◌≡◌, ℕ, None, Ok, Err, Option, Result, inr, refl, subst}
 use Rattle.answer.specs.declared.Fault.{Fault}
 use Rattle.answer.specs.declared.Refusal.{Refusal}
 use Rattle.answer.specs.declared.Refused.{Refused}

@@ -3,11 +3,10 @@ use Rattle.std.proofs.lemmas.Bool.{both_ways}
 use Rattle.std.proofs.Math.Nat.{le-mul_of_pos_right}
 use Rattle.std.specs.Result.{is_ok}
 use Rattle.head.specs.Heads.{kept_rows}
-use Rattle.head.specs.declared.state.Progress.TheVariants.{Moving}
 use Rattle.model.specs.Reading.{home_by}
 use Rattle.stage.proofs.Chains.{handed_on}
 use Rattle.stage.proofs.Earlier.{home_enough}
-use Rattle.volume.specs.Volumes.{CheckpointOf, KeepEnds, known}
+use Rattle.volume.specs.Volumes.{KeepEnds, known}
 use Rattle.volume.proofs.Keeping.{keep_by}
 use Rattle.volume.proofs.Slots.{keep_cut, savable, slotted, span_below, span_of}
 use Rattle.volume.proofs.Writing.{onto}
@@ -23,8 +22,7 @@ returns-in_err-save-clause-ends g c = λ has can.
     let span = span_of u.crew.source u.crew.target v.array.head c.walk-walk.result from to c.walk-walk.ensures c.next_kept.ensures in
     let below = span_below u from to span in
     let save = c.in_err-save.ensures in
-    handed_on (λ r. KeepEnds mean g.L.Layout.geometry g.L.Layout.named v (onto v c.save.new.shelf) r) c.from_residual.result _ c.from_residual.ensures.1
-    (
+    handed_on (λ r. KeepEnds mean g.L.Layout.geometry g.L.Layout.named v (onto v c.save.new.shelf) r) c.from_residual.result _ c.from_residual.ensures.1 (
       refl,
       (save.ends has below).1,
       refl,
