@@ -35,7 +35,8 @@ source_alone s t f a b p =
 of_create : (a : Meaning) (f : Fault) → OnMember only_writes a f → InCall Begin None a f
 of_create a f n = in_call Begin a f (member_as (operates_writes Begin refl refl) a f n)
 
-create_met : (verdict : Option Refusal) (s t : Geometry) (a b : Meaning) (e : Refused) → verdict ≡ None → Met (crew Before s t) (OnMember only_writes a) b e → CreateMet verdict s t a b e
+create_met : (verdict : Option Refusal) (s t : Geometry) (a b : Meaning) (e : Refused) → verdict ≡ None
+    → Met (crew Before s t) (OnMember only_writes a) b e → CreateMet verdict s t a b e
 create_met verdict s t a b e none met = record { by = none; met = met_as (OnMember only_writes a) (InCall Begin None a) (of_create a) e met }
 
 -- the volume with its first head, on another state of its shelf
@@ -43,8 +44,8 @@ abbrev pub founded_on : {S L : Type 0} → Volume S L → Head → S → Volume 
 founded_on v head shelf = record { shelf = shelf; array = record { source = v.array.source; target = v.array.target; phase = Before; head = head }; hand = v.hand }
 
 -- cleared, and the first head was spread, or met
-pub laid_out : {S L : Type 0} (mean : S → Meaning) (place : L → Geometry) (name : L → Label) (verdict : Option Refusal) (size backup : ℕ) (v : Volume S L) (k : Head) (between shelf : S)
-    → verdict ≡ None → First (name v.array.source) size backup k → Fits k
+pub laid_out : {S L : Type 0} (mean : S → Meaning) (place : L → Geometry) (name : L → Label) (verdict : Option Refusal) (size backup : ℕ) (v : Volume S L)
+    (k : Head) (between shelf : S) → verdict ≡ None → First (name v.array.source) size backup k → Fits k
     → Passed (crew Before (place v.array.source) (place v.array.target)) (created_over (place v.array.source) k.backup) (mean v.shelf) (mean between) → (r : Result Unit Refused)
     → Stage (crew Before (place v.array.source) (place v.array.target)) (λ n s x. x ≡ headed k (mean between).current n s) (OnHeads (mean between)) (mean between) (mean shelf)
     (λ u. Passed (crew Before (place v.array.source) (place v.array.target)) (headed k) (mean between) (mean shelf)) r

@@ -18,11 +18,13 @@ returns-in_err-checkpoint_progress-clause-ends g c =
     let u = known place v in
     let a = mean v.shelf in
     let l = g.L.Layout.named v.array.target in
+    let verdict = begin_verdict l u a in
     let judged = c.in_ok-distance.ensures in
     let made = c.in_err-checkpoint_progress.ensures in
-    handed_on (λ r. CallCame mean place g.L.Layout.named (begin_verdict l u a) (λ d. Distance d) Begin (w ≡ v) v w r) c.from_residual-in_err-checkpoint_progress.result _ c.from_residual-in_err-checkpoint_progress.ensures.1
+    handed_on (λ r. CallCame mean place g.L.Layout.named verdict (λ d. Distance d) Begin (w ≡ v) v w r)
+    c.from_residual-in_err-checkpoint_progress.result _ c.from_residual-in_err-checkpoint_progress.ensures.1
     (inr (
-      checkpoint_met_at mean place (begin_verdict l u a) Begin v.array.head.source (Moving l 0 0) v w _ judged.verdict judged.left made (heads_in_call Begin refl refl a) (λ e. e) refl,
+      checkpoint_met_at mean place verdict Begin v.array.head.source (Moving l 0 0) v w _ judged.verdict judged.left made (heads_in_call Begin refl refl a) (λ e. e) refl,
       checkpoint_torn Begin u l v.array.head w.array.head a (mean w.shelf) _ refl judged.left made.stage,
     ))
 
@@ -33,4 +35,5 @@ returns-clause-ends g c =
     let v = c.args.self.now in
     let w = c.checkpoint_progress.new.self in
     let made = c.in_ok-checkpoint_progress.ensures in
-    (search rules, checkpoint_done Begin (known place v) (g.L.Layout.named v.array.target) v.array.head w.array.head (mean v.shelf) (mean w.shelf) refl made.stage made.fits)
+    let l = g.L.Layout.named v.array.target in
+    (search rules, checkpoint_done Begin (known place v) l v.array.head w.array.head (mean v.shelf) (mean w.shelf) refl made.stage made.fits)

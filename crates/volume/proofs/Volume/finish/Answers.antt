@@ -18,11 +18,13 @@ returns-in_err-checkpoint-clause-ends g c =
     let u = known place v in
     let a = mean v.shelf in
     let l = g.L.Layout.named v.array.target in
+    let verdict = finish_verdict u a in
     let judged = c.in_ok-judge_finish.ensures in
     let made = rw c.label-label.ensures at c.in_err-checkpoint.ensures in
-    handed_on (λ r. CallCame mean place g.L.Layout.named (finish_verdict u a) (λ f. Counts f.rows f.kept) Finish (w ≡ v) v w r) c.from_residual-in_err-checkpoint.result _ c.from_residual-in_err-checkpoint.ensures.1
+    handed_on (λ r. CallCame mean place g.L.Layout.named verdict (λ f. Counts f.rows f.kept) Finish (w ≡ v) v w r)
+    c.from_residual-in_err-checkpoint.result _ c.from_residual-in_err-checkpoint.ensures.1
     (inr (
-      checkpoint_met_at mean place (finish_verdict u a) Finish l Idle v w _ judged.verdict judged.left made (heads_in_call Finish refl refl a) (λ e. e) refl,
+      checkpoint_met_at mean place verdict Finish l Idle v w _ judged.verdict judged.left made (heads_in_call Finish refl refl a) (λ e. e) refl,
       checkpoint_torn Finish u l v.array.head w.array.head a (mean w.shelf) _ refl judged.left made.stage,
     ))
 
@@ -33,4 +35,5 @@ returns-clause-ends g c =
     let v = c.args.self.now in
     let w = c.checkpoint.new.self in
     let made = rw c.label-label.ensures at c.in_ok-checkpoint.ensures in
-    (search rules, checkpoint_done Finish (known place v) (g.L.Layout.named v.array.target) v.array.head w.array.head (mean v.shelf) (mean w.shelf) refl made.stage made.fits)
+    let l = g.L.Layout.named v.array.target in
+    (search rules, checkpoint_done Finish (known place v) l v.array.head w.array.head (mean v.shelf) (mean w.shelf) refl made.stage made.fits)
