@@ -23,6 +23,14 @@ pub stage_may : {A : Type 0} (w : Crew) {P : ℕ → ℕ → List ℕ → Type 0
 stage_may w F D (Ok x) s = s.0
 stage_may w F D (Err e) s = s.0
 
+-- a stage by a wider plan and under wider names, with what follows from what it reached
+pub stage_as : {A : Type 0} (w : Crew) {P Q : ℕ → ℕ → List ℕ → Type 0} {F G : Fault → Type 0} (a b : Meaning) {D E : A → Type 0}
+    → ((k s : ℕ) (x : List ℕ) → Q k s x → P k s x) → ((f : Fault) → F f → G f) → ((x : A) → May Q a b → D x → E x) → (r : Result A Refused)
+    → Stage w Q F a b D r → Stage w P G a b E r
+stage_as w a b wider names done (Ok x) s = (may_wider wider s.0, s.1, done x s.0 s.2)
+stage_as {A} w {P} {Q} {F} {G} a b wider names done (Err e) s =
+    (may_wider wider s.0, record { why = s.1.why; fault = names_as F G names e.fault s.1.fault })
+
 -- What was reached by one stage, and another after it.
 pub stage_after : {A : Type 0} {w : Crew} (P Q : ℕ → ℕ → List ℕ → Type 0) (F G : Fault → Type 0) {a b c : Meaning} (D E : A → Type 0)
     → May P a b → GoesOn w a b → ((k s : ℕ) (x : List ℕ) → Q k s x → P k s x) → ((f : Fault) → F f → G f) → ((x : A) → May Q b c → D x → E x)

@@ -1,6 +1,7 @@
 pub mod Chains
 pub mod Crews
 pub mod Endings
+pub mod Flushed
 pub mod Folds
 pub mod Loops
 pub mod Looks
@@ -8,3 +9,4 @@ pub mod Operations
 pub mod Places
 pub mod Shown
 pub mod Leading
+pub mod Written

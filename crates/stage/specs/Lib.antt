@@ -4,4 +4,5 @@ pub mod Checkpoint
 pub mod Done
 pub mod Endings
 pub mod Looks
+pub mod Places
 pub mod Walks

@@ -38,7 +38,7 @@ returns-in_err-parity-clause-ends g c = λ u.
 pub returns-clause-may : goal.returns-clause-may
 returns-clause-may g c =
     may_then (quiet c.read_held.ensures.may) (may_then (quiet c.read_held-2.ensures.may)
-    (may_wider (λ k s x p. search rules) (stage_may _ _ _ c.apply.result c.apply.ensures)))
+    (may_wider (λ k s x p. search rules) (stage_may _ _ _ c.apply.result c.apply.ensures.ends)))
 
 pub returns-clause-ends : goal.returns-clause-ends
 returns-clause-ends g c = λ u.
@@ -55,4 +55,4 @@ returns-clause-ends g c = λ u.
     let t = c.in_ok-parity.ensures.shows (one_sure x law backup 2 b (use_stays l x backup u) (omega arith)) in
     let so : Going w (From 3) a b = record { may = quiet s.0; goes = s.1 } in
     let both : Going w (From 3) a e = going_then so (quiet t.0) t.1 in
-    ends_after reads_and_writes d both c.apply.result (stage_ends w _ (From 3) _ _ e d _ (λ k n y p. search rules) (member_as writes_too e) c.apply.result c.apply.ensures)
+    ends_after reads_and_writes d both c.apply.result (stage_ends w _ (From 3) _ _ e d _ (λ k n y p. search rules) (member_as writes_too e) c.apply.result c.apply.ensures.ends)
