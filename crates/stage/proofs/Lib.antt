@@ -7,6 +7,7 @@ pub mod Loops
 pub mod Looks
 pub mod Operations
 pub mod Places
+pub mod Redone
 pub mod Shown
 pub mod Leading
 pub mod Written

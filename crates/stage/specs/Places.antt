@@ -1,7 +1,7 @@
 -- Writes to places of a layout.
 use Rattle.std.specs.Prelude.{◌≡◌, ℕ, ◌+◌, ◌<◌, ◌≤◌, List, Result}
 use Rattle.answer.specs.declared.Refused.{Refused}
-use Rattle.head.specs.declared.TheConstants.{SLOTS_AT}
+use Rattle.head.specs.declared.TheConstants.{LOGGED_DATUM_AT, LOGGED_PARITY_AT, SLOTS_AT}
 use Rattle.layout.specs.Geometry.{Geometry, capacity}
 use Rattle.layout.specs.declared.TheConstants.{MOST_DEPTH}
 use Rattle.overlap.specs.declared.walk.Home.{Home}
@@ -11,9 +11,11 @@ use Rattle.model.specs.Crew.{Crew}
 use Rattle.model.specs.Ends.{Stage}
 use Rattle.model.specs.Images.{applied, set, with_places}
 use Rattle.model.specs.May.{EitherPlan, OneFrom}
-use Rattle.model.specs.Steps.{Step, WrittenBy}
+use Rattle.model.specs.Reading.{common}
+use Rattle.model.specs.Steps.{SeenBy, Step, WrittenBy}
+use Rattle.stage.specs.Arrays.{crew_of}
 use Rattle.stage.specs.Done.{FlushedAll, FlushedAt, WrittenAt}
-use Rattle.stage.specs.Endings.{OnMember, only_writes}
+use Rattle.stage.specs.Endings.{Carries, OnMember, only_writes, reads_and_writes}
 use Rattle.stage.specs.Looks.{homes_of}
 use Rattle.stage.specs.declared.array.Array.{Array}
 
@@ -81,3 +83,11 @@ abbrev pub HomeFlushed : Home → (source target : Geometry) → ℕ → Meaning
 HomeFlushed Source s t i b = PlacesFlushed s i b
 HomeFlushed Target s t i b = PlacesFlushed t i b
 HomeFlushed Backup s t i b = FlushedAll b
+
+-- A logged write was carried out again, as the log was read of members that were there at the time.
+pub record RedoneBy {L : Type 0} (place : L → Geometry) (v : Array L) (i : ℕ) (a b : Meaning) (r : Result Unit Refused) : Type 0 where
+  pub datum : List ℕ
+  pub parity : List ℕ
+  pub logged_datum : SeenBy (crew_of place v) a b (λ m. common m LOGGED_DATUM_AT) datum
+  pub logged_parity : SeenBy (crew_of place v) a b (λ m. common m LOGGED_PARITY_AT) parity
+  pub carries : Carries (crew_of place v) reads_and_writes (home_step place v i datum parity) a b r

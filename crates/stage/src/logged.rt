@@ -11,7 +11,7 @@ ghost use Rattle.stage.specs.Arrays.{crew_of};
 ghost use Rattle.stage.specs.Done.{WrittenAll};
 ghost use Rattle.stage.specs.Endings.{Carries, OnMember, StageEnds, only_writes, reads_and_writes};
 ghost use Rattle.stage.specs.Looks.{homes_of};
-ghost use Rattle.stage.specs.Places.{AtCopies, AtPlace, CopiesFlushed, CopiesHold, EitherOf, HasHome, HomeFlushed, PlaceHolds, PlacesFlushed, WritesPlaces, WritesStep, home_step};
+ghost use Rattle.stage.specs.Places.{AtCopies, AtPlace, CopiesFlushed, CopiesHold, EitherOf, HasHome, HomeFlushed, PlaceHolds, PlacesFlushed, RedoneBy, WritesPlaces, WritesStep, home_step};
 
 use crate::array::Array;
 use answer::Refused;
@@ -62,6 +62,7 @@ impl<L: Layout> Array<L> {
     pub fn redo<S: Shelf>(&self, shelf: &mut S, sector: u64) -> Result<(), Refused>
         ensures may { May (From SLOTS_AT) (S.meaning shelf.old) (S.meaning shelf.new) }
         ensures ends { InUse (crew_of L.geometry self.now) (L.geometry self.now.source) self.now.head.backup (S.meaning shelf.old) → StageEnds (crew_of L.geometry self.now) reads_and_writes (From SLOTS_AT) (S.meaning shelf.old) (S.meaning shelf.new) result }
+        ensures carries { InUse (crew_of L.geometry self.now) (L.geometry self.now.source) self.now.head.backup (S.meaning shelf.old) → AllDurable (S.meaning shelf.old) → HasHome L.geometry self.now sector → RedoneBy L.geometry self.now sector (S.meaning shelf.old) (S.meaning shelf.new) result }
     {
         let datum = self.read_held(shelf, LOGGED_DATUM_AT)?;
         let parity = self.read_held(shelf, LOGGED_PARITY_AT)?;
