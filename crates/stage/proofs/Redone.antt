@@ -62,7 +62,8 @@ no_look w a = record { may = may_refl a; goes = record { on = λ e. e; enough = 
 -- a sector of the log, seen of who is there at the end of a look
 logged_seen : (w : Crew) (t : ℕ) (a m b : Meaning) (x : List ℕ) → enough w a ≡ true → Looking w a m → x ≡ common m t
     → ((k : ℕ) → b.present k ≡ true → m.present k ≡ true) → SeenBy w a b (λ n. common n t) x
-logged_seen w t a m b x here look is were = seen_until w (λ n. common n t) x were (seen w (λ n. common n t) x (common_seen t) here (record { may = look.may; goes = look.goes }) is)
+logged_seen w t a m b x here look is were =
+    seen_until w (λ n. common n t) x were (seen w (λ n. common n t) x (common_seen t) here (record { may = look.may; goes = look.goes }) is)
 
 -- met while the log was read: what it holds is seen of who was there
 pub redo_met : {L : Type 0} (place : L → Geometry) (v : Array L) (i : ℕ) (a b : Meaning) (e : Refused) → enough (crew_of place v) a ≡ true

@@ -17,7 +17,8 @@ returns-in_err-flush_at g c =
     let a = g.S.Shelf.meaning c.args.shelf.now in
     let b = g.S.Shelf.meaning c.loop-copy.shelf in
     let d = g.S.Shelf.meaning c.flush_at.new.shelf in
-    handed_on (λ r. Stage w nothing (OnMember only_writes a) a d (λ u. CopiesFlushed x c.args.sector x.copies d) r) c.from_residual.result _ c.from_residual.ensures.1
+    handed_on (λ r. Stage w nothing (OnMember only_writes a) a d (λ u. CopiesFlushed x c.args.sector x.copies d) r)
+    c.from_residual.result _ c.from_residual.ensures.1
     (met_after d c.loop-copy.invariant.0 _ (met_ends w only_writes nothing nothing _ b d (λ k s z p. p) (on_cell Flush refl b c.place.result.0 0) _ c.in_err-flush_at.ensures.stage))
 
 pub loop-copy-preserved : goal.loop-copy-preserved
@@ -26,6 +27,6 @@ loop-copy-preserved g c =
     let lt : c.loop-copy.copy < x.copies = omega arith in
     let s = c.in_ok-flush_at.ensures.stage in (
       going_then c.loop-copy.invariant.0 s.0 s.1,
-      flushed_more x c.args.sector c.loop-copy.copy c.place.result (g.S.Shelf.meaning c.loop-copy.shelf) (g.S.Shelf.meaning c.flush_at.new.shelf) c.place.ensures lt s.0 s.2
-          c.loop-copy.invariant.1,
+      flushed_more x c.args.sector c.loop-copy.copy c.place.result (g.S.Shelf.meaning c.loop-copy.shelf) (g.S.Shelf.meaning c.flush_at.new.shelf) c.place.ensures
+          lt s.0 s.2 c.loop-copy.invariant.1,
     )

@@ -18,7 +18,8 @@ returns-in_err-write_place g c =
     let a = g.S.Shelf.meaning c.args.shelf.now in
     let b = g.S.Shelf.meaning c.loop-copy.shelf in
     let d = g.S.Shelf.meaning c.write_place.new.shelf in
-    handed_on (λ r. Stage w P (OnMember only_writes a) a d (λ u. CopiesHold x backup c.args.sector x.copies c.args.datum.now d) r) c.from_residual.result _ c.from_residual.ensures.1
+    handed_on (λ r. Stage w P (OnMember only_writes a) a d (λ u. CopiesHold x backup c.args.sector x.copies c.args.datum.now d) r)
+    c.from_residual.result _ c.from_residual.ensures.1
     (met_after {P = P} d c.loop-copy.invariant.0 _ (met_ends w _ P _ _ b d
     (copy_at x backup c.args.sector c.loop-copy.copy c.place.result c.args.datum.now c.place.ensures (omega arith))
     (λ f n. n) _ c.in_err-write_place.ensures))
@@ -31,6 +32,6 @@ loop-copy-preserved g c =
     let s = c.in_ok-write_place.ensures in
     let m = may_wider (copy_at x backup c.args.sector c.loop-copy.copy c.place.result c.args.datum.now c.place.ensures lt) s.0 in (
       going_then {P = AtCopies x backup c.args.sector c.args.datum.now} c.loop-copy.invariant.0 m s.1,
-      copies_more x backup c.args.sector c.loop-copy.copy c.place.result c.args.datum.now (g.S.Shelf.meaning c.loop-copy.shelf) (g.S.Shelf.meaning c.write_place.new.shelf) c.place.ensures
-          lt m s.2 c.loop-copy.invariant.1,
+      copies_more x backup c.args.sector c.loop-copy.copy c.place.result c.args.datum.now (g.S.Shelf.meaning c.loop-copy.shelf)
+          (g.S.Shelf.meaning c.write_place.new.shelf) c.place.ensures lt m s.2 c.loop-copy.invariant.1,
     )
