@@ -1,5 +1,5 @@
 -- Calls that are one checkpoint or nothing: how they end, and what they make of every sector.
-use Rattle.std.proofs.Common.{◌≡◌, ℕ, ◌+◌, ◌<◌, ◌∙◌, List, [], ◌∷◌, Some, None, Ok, Err, Option, Result, inl, inr, refl, sym, ap, subst, rules, arith}
+use Rattle.std.proofs.Common.{◌≡◌, ℕ, zero, suc, ◌+◌, ◌<◌, ◌∙◌, List, [], ◌∷◌, Some, None, Ok, Err, Option, Result, inl, inr, refl, sym, ap, subst, rules, arith}
 use Rattle.answer.specs.declared.Fault.{Fault}
 use Rattle.answer.specs.declared.Refusal.{Refusal}
 use Rattle.answer.specs.declared.Refused.{Refused}
@@ -13,16 +13,17 @@ use Rattle.head.specs.declared.state.Progress.TheVariants.{Moving}
 use Rattle.shelf.specs.Meaning.{Meaning}
 use Rattle.model.specs.Answers.{HeadLeft, InCall, MetAt, hand_left, row_about}
 use Rattle.model.specs.Crew.{Crew}
-use Rattle.model.specs.Effects.{DoneBy, MetBy, PartsOf, checkpoint_of, progress_after, source_after}
+use Rattle.model.specs.Effects.{DoneBy, MetBy, PartsOf, checkpoint_of, progress_after, some_first, source_after}
 use Rattle.model.specs.Faults.{OnHeads}
 use Rattle.model.specs.Handed.Handed.{Nothing}
 use Rattle.model.specs.Knowing.{Volume as Known}
-use Rattle.model.specs.Steps.{Looked, Through, TornIn}
+use Rattle.model.specs.May.{May}
+use Rattle.model.specs.Steps.{Looked, Part, Passed, Step, Through, Torn, TornIn}
 use Rattle.model.specs.Steps.Part.{Checkpoint}
 use Rattle.model.specs.declared.request.Request.{Request}
 use Rattle.model.specs.declared.request.Request.TheVariants.{HandBack, Settle}
 use Rattle.model.specs.Verdicts.{emptied}
-use Rattle.model.proofs.Mays.{may_refl}
+use Rattle.model.proofs.Mays.{may_refl, may_wider}
 use Rattle.stage.specs.Checkpoint.{Checkpointed}
 use Rattle.volume.specs.declared.Volume.{Volume}
 use Rattle.volume.specs.Volumes.{CallCame, CheckpointOf, OnlyHand, known, rowed}
@@ -48,6 +49,30 @@ pub torn_one : {w : Crew} {s : Label} {p : Progress} {i : Option ℕ} {h k : Hea
 torn_one {w} {s} {p} {i} {h} {k} {a} {b} e lt c = elim c.1 [
   | inl spent ↦ (let last = spent.last in absurd (omega (arith, lt, last)))
   | inr m ↦ (m.head, record { next = m.next; fits = m.fits }, inl m.torn)
+]
+
+-- after a step over so many sectors, if there are any
+pub through_first : (w : Crew) (h k : Head) (a m b : Meaning) (n : ℕ) (f : Step) (ps : List Part) → (n ≡ 0 → m ≡ a) → (0 < n → Passed w f a m) → Through w ps h m k b
+    → Through w (some_first n f ps) h a k b
+through_first w h k a m b zero f ps none first rest = subst (λ x. Through w ps h x k b) (none refl) rest
+through_first w h k a m b (suc n) f ps none first rest = (m, first (omega arith), rest)
+
+pub torn_after : (w : Crew) (h : Head) (a m b : Meaning) (n : ℕ) (f : Step) (ps : List Part) → (n ≡ 0 → m ≡ a) → (0 < n → Passed w f a m) → TornIn w ps h m b
+    → TornIn w (some_first n f ps) h a b
+torn_after w h a m b zero f ps none first rest = subst (λ x. TornIn w ps h x b) (none refl) rest
+torn_after w h a m b (suc n) f ps none first rest = inr (m, first (omega arith), rest)
+
+-- in that step
+pub torn_first : (w : Crew) (h : Head) (a b : Meaning) (n : ℕ) (f : Step) (ps : List Part) → 0 < n → Torn f a b → TornIn w (some_first n f ps) h a b
+torn_first w h a b zero f ps lt torn = absurd (omega (arith, lt))
+torn_first w h a b (suc n) f ps lt torn = inl torn
+
+-- a checkpoint that was met may have written heads
+pub checkpoint_may : {w : Crew} {s : Label} {p : Progress} {i : Option ℕ} {h k : Head} {a b : Meaning} (e : Refused) → h.number < MOST_NUMBER
+    → Checkpointed w s p i h k a b (Err e) → May (λ k s x. Unit {0}) a b
+checkpoint_may {w} {s} {p} {i} {h} {k} {a} {b} e lt c = elim c.1 [
+  | inl spent ↦ (let last = spent.last in absurd (omega (arith, lt, last)))
+  | inr m ↦ may_wider (λ k s x p. tt) m.torn
 ]
 
 -- a call that is one checkpoint, done

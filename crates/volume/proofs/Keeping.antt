@@ -25,10 +25,11 @@ use Rattle.stage.specs.Endings.{HasVolume, OnMember, StageEnds, reads_and_writes
 use Rattle.stage.proofs.Endings.{Going, member_as}
 use Rattle.stage.proofs.Loops.{goes_then}
 use Rattle.volume.specs.declared.Volume.{Volume}
-use Rattle.volume.specs.Volumes.{CallEnds, CheckpointOf, Housed, KeepEnds, known, rowed}
+use Rattle.volume.specs.Volumes.{CallCame, CheckpointOf, Housed, KeepEnds, known, rowed}
 use Rattle.volume.proofs.Ending.{checkpoint_met, heads_on_member, met_rowed}
 use Rattle.volume.proofs.Housing.{home_has}
 use Rattle.volume.proofs.Looking.{in_call_of_row, operates_all}
+use Rattle.volume.proofs.Slots.{Slotted, keep_done, keep_torn}
 use Rattle.volume.proofs.Writing.{met_later, onto}
 
 pub has_volume : {S L : Type 0} (mean : S → Meaning) (place : L → Geometry) (v : Volume S L) → Housed (known place v) (mean v.shelf) → enough (known place v).crew (mean v.shelf) ≡ true
@@ -37,12 +38,21 @@ has_volume mean place v housed here = record { each = λ i below. home_has (know
 
 -- the slots were written, and then a checkpoint
 pub keep_by : {S L : Type 0} (mean : S → Meaning) (place : L → Geometry) (name : L → Label) (v w : Volume S L) (shelf : S) {P : ℕ → ℕ → List ℕ → Type 0}
-    → v.array.head.number < MOST_NUMBER → Going (crew_of place v.array) P (mean v.shelf) (mean shelf) → (x : Result Unit Refused)
+    → v.array.head.number < MOST_NUMBER → Going (crew_of place v.array) P (mean v.shelf) (mean shelf) → Slotted (known place v) (mean v.shelf) (mean shelf) → (x : Result Unit Refused)
     → CheckpointOf mean place v.array.head.source (Moving (name v.array.target) (settled_rows v.array.head.progress) (kept_rows v.array.head.progress + 1)) None (onto v shelf) w x
     → KeepEnds mean place name v w x
-keep_by mean place name v w shelf left saved (Ok x) c = (c.stage.0, goes_then saved.goes c.stage.1.goes, search rules)
-keep_by mean place name v w shelf left saved (Err e) c =
-    (c.stage.0, met_later saved.may (OnHeads (mean shelf)) (heads_on_member refl refl (mean shelf)) e (checkpoint_met e left c.stage), search rules)
+keep_by mean place name v w shelf left saved slots (Ok x) c = (
+  c.stage.0,
+  goes_then saved.goes c.stage.1.goes,
+  search rules,
+  keep_done (name v.array.target) v.array.head w.array.head (mean w.shelf) slots c.stage c.fits,
+)
+keep_by mean place name v w shelf left saved slots (Err e) c = (
+  c.stage.0,
+  met_later saved.may (OnHeads (mean shelf)) (heads_on_member refl refl (mean shelf)) e (checkpoint_met e left c.stage),
+  search rules,
+  keep_torn (name v.array.target) v.array.head w.array.head (mean w.shelf) e slots left c.stage,
+)
 
 -- an operation of a keep or a copy, with its row
 in_row_of : (r : Request) → ((o : Operation) → reads_and_writes o ≡ true → operates r o ≡ true) → (row : ℕ) (a : Meaning) (f : Fault) → OnMember reads_and_writes a f
@@ -51,21 +61,24 @@ in_row_of r all row a f n = in_call_of_row r row a f (member_as all a f n)
 
 keep_rowed : {S L : Type 0} (mean : S → Meaning) (place : L → Geometry) (name : L → Label) (verdict : Option Refusal) (same : Type 0) (v w : Volume S L)
     → verdict ≡ None → (x : Result Unit Refused) → KeepEnds mean place name v w x
-    → CallEnds mean place name verdict (λ u. Nothing) Keep same v w (rowed (kept_rows v.array.head.progress) x)
-keep_rowed mean place name verdict same v w none (Ok x) k = record { by = none; goes = k.1; head = k.0; known = k.2; out = refl }
-keep_rowed mean place name verdict same v w none (Err e) k = inr (record {
-  by = none;
-  met = met_rowed (kept_rows v.array.head.progress) (OnMember reads_and_writes (mean v.shelf)) (InCall Keep (Some (kept_rows v.array.head.progress)) (mean v.shelf))
-      (in_row_of Keep (operates_all Keep refl refl refl) (kept_rows v.array.head.progress) (mean v.shelf)) e k.1;
-  head = k.0;
-  known = k.2 ∙ search rules;
-})
+    → CallCame mean place name verdict (λ u. Nothing) Keep same v w (rowed (kept_rows v.array.head.progress) x)
+keep_rowed mean place name verdict same v w none (Ok x) k = (record { by = none; goes = k.1; head = k.0; known = k.2; out = refl }, k.3)
+keep_rowed mean place name verdict same v w none (Err e) k = inr (
+  record {
+    by = none;
+    met = met_rowed (kept_rows v.array.head.progress) (OnMember reads_and_writes (mean v.shelf)) (InCall Keep (Some (kept_rows v.array.head.progress)) (mean v.shelf))
+        (in_row_of Keep (operates_all Keep refl refl refl) (kept_rows v.array.head.progress) (mean v.shelf)) e k.1;
+    head = k.0;
+    known = k.2 ∙ search rules;
+  },
+  k.3,
+)
 
 pub keep_ends : {S L : Type 0} (mean : S → Meaning) (place : L → Geometry) (name : L → Label) (verdict : Option Refusal) (same : Type 0) (v w : Volume S L)
     → verdict ≡ None → (x : Result Unit Refused) → KeepEnds mean place name v w x → (about : ℕ) → about ≡ kept_rows v.array.head.progress → (r : Result Unit Refused) → r ≡ rowed about x
-    → CallEnds mean place name verdict (λ u. Nothing) Keep same v w r
+    → CallCame mean place name verdict (λ u. Nothing) Keep same v w r
 keep_ends mean place name verdict same v w none x k about is r e =
-    subst (λ y. CallEnds mean place name verdict (λ u. Nothing) Keep same v w y) (sym (e ∙ ap (λ y. rowed y x) is)) (keep_rowed mean place name verdict same v w none x k)
+    subst (λ y. CallCame mean place name verdict (λ u. Nothing) Keep same v w y) (sym (e ∙ ap (λ y. rowed y x) is)) (keep_rowed mean place name verdict same v w none x k)
 
 abbrev err_or : Refused → Result Unit Refused → Refused
 err_or d (Ok u) = d

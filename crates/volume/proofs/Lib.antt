@@ -2,6 +2,7 @@ pub mod Ending
 pub mod Housing
 pub mod Looking
 pub mod Coming
+pub mod Slots
 pub mod Writing
 pub mod Keeping
 pub mod Settling

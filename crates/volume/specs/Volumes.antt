@@ -1,9 +1,10 @@
 -- What clauses read of a volume.
-use Rattle.std.specs.Prelude.{◌≡◌, ℕ, ◌<◌, ◌≤◌, ◌⊎◌, [], Some, None, Ok, Err, OnOk, Option, Result}
+use Rattle.std.specs.Prelude.{◌≡◌, ℕ, ◌*◌, ◌<◌, ◌≤◌, ◌⊎◌, [], Some, None, Ok, Err, OnOk, Option, Result}
 use Rattle.answer.specs.Faults.{in_row}
 use Rattle.answer.specs.declared.Refusal.{Refusal}
 use Rattle.answer.specs.declared.Refused.{Refused}
 use Rattle.head.specs.Heads.{Fits}
+use Rattle.head.specs.declared.TheConstants.{MOST_NUMBER}
 use Rattle.head.specs.declared.state.Head.{Head}
 use Rattle.head.specs.declared.state.Progress.{Progress}
 use Rattle.layout.specs.Geometry.{Geometry, capacity}
@@ -12,11 +13,12 @@ use Rattle.overlap.specs.Needs.{distance_of}
 use Rattle.shelf.specs.Meaning.{Meaning}
 use Rattle.model.specs.Answers.{Came, CreateMet, Ended, HeadLeft, TurnedAway}
 use Rattle.model.specs.Crew.{crew}
-use Rattle.model.specs.Effects.{First, HeadAfter, Rearmed, known_after}
+use Rattle.model.specs.Effects.{DoneBy, First, HeadAfter, MetBy, Rearmed, known_after}
 use Rattle.model.specs.Ends.{GoesOn, Met}
 use Rattle.model.specs.Handed.{Handed}
 use Rattle.model.specs.Knowing.{Volume as Known}
 use Rattle.model.specs.Readable.{Room}
+use Rattle.model.specs.Verdicts.{window_after_keep}
 use Rattle.model.specs.declared.phase.Phase.{Phase}
 use Rattle.model.specs.declared.phase.Phase.TheVariants.{Before, Moving, After, Shut}
 use Rattle.model.specs.declared.request.Request.{Request}
@@ -139,13 +141,22 @@ abbrev pub Carried : {S L : Type 0} → (S → Meaning) → (L → Geometry) →
 Carried mean place i v w (Ok x) = Rearmed i v.array.head w.array.head × StaysOn mean place v w
 Carried mean place i v w (Err e) = HeadLeft (Write i []) v.array.head w.array.head × Met (crew_of place v.array) (OnMember only_writes (mean v.shelf)) (mean w.shelf) e
 
+-- The next source row can be kept: the volume moves, the row is live, the slots take its window, and a number is left.
+pub record KeepsNext (v : Known) : Type 0 where
+  pub moving : v.crew.phase ≡ Moving
+  pub live : v.kept * v.crew.source.row_len < v.size
+  pub window : window_after_keep v ≤ v.backup
+  pub left : v.number < MOST_NUMBER
+
 -- The next source row was kept, or this was met: nothing has changed but the head.
 abbrev pub KeepEnds : {S L : Type 0} → (S → Meaning) → (L → Geometry) → (L → Label) → (v w : Volume S L) → Result Unit Refused → Type 0
 KeepEnds mean place name v w (Ok x) =
     HeadAfter Keep (known place v) (name v.array.target) v.array.head w.array.head × StaysOn mean place v w
     × (known place w ≡ known_after Keep (known place v) w.array.head)
+    × DoneBy Keep (known place v) (name v.array.target) v.array.head (mean v.shelf) (mean w.shelf) w.array.head
 KeepEnds mean place name v w (Err e) =
     (w.array.head ≡ v.array.head) × Met (crew_of place v.array) (OnMember reads_and_writes (mean v.shelf)) (mean w.shelf) e × (known place w ≡ known place v)
+    × MetBy Keep (known place v) (name v.array.target) v.array.head (mean v.shelf) (mean w.shelf)
 
 -- nothing has changed but the shelf, the phase and the head
 pub record SameLayouts {S L : Type 0} (v w : Volume S L) : Type 0 where

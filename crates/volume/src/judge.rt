@@ -8,7 +8,7 @@ ghost use Rattle.model.specs.declared.phase.Phase.TheVariants.{Before, Moving};
 ghost use Rattle.model.specs.Knowing.{phase_by};
 ghost use Rattle.model.specs.Opening.{cannot_disarm, head_fits, head_verdict, layouts_named, logged_fits, progress_fits, target_named, walk_fits};
 ghost use Rattle.model.specs.Verdicts.{Judged, access_verdict, admission, begin_verdict, copy_verdict, create_verdict, finish_verdict, fits, is_hand, shelf_in_limits, keep_verdict, read_verdict, settle_verdict, spent, write_verdict};
-ghost use Rattle.volume.specs.Volumes.{HasRoom, distance_in, hand_of, head_of, known, phase_of, shelf_of, source_of, target_of};
+ghost use Rattle.volume.specs.Volumes.{HasRoom, KeepsNext, distance_in, hand_of, head_of, known, phase_of, shelf_of, source_of, target_of};
 
 use crate::Volume;
 use answer::Refusal;
@@ -168,8 +168,7 @@ impl<S: Shelf, L: Layout> Volume<S, L> {
     pub(crate) fn judge_keep(&self) -> Result<(), Refusal>
         ensures verdict { Judged (keep_verdict (known L.geometry self.now) (S.meaning (shelf_of self.now))) result }
         ensures enough { OnOk result (enough (known L.geometry self.now).crew (S.meaning (shelf_of self.now)) ≡ true) }
-        ensures live { OnOk result ((known L.geometry self.now).kept * (L.geometry (source_of self.now)).row_len < (known L.geometry self.now).size) }
-        ensures left { OnOk result ((head_of self.now).number < MOST_NUMBER) }
+        ensures next { OnOk result (KeepsNext (known L.geometry self.now)) }
     {
         self.admit(Call::Keep)?;
         let walk = self.array.walk();

@@ -16,7 +16,7 @@ ghost use Rattle.model.specs.Opening.{Restarted};
 ghost use Rattle.model.specs.Verdicts.{RefusedBy, ShutsBy, begin_verdict, copy_verdict, create_verdict, emptied, finish_verdict, hand_back_verdict, is_hand, keep_verdict, read_verdict, settle_verdict, write_verdict};
 ghost use Rattle.stage.specs.Endings.{HasVolume};
 ghost use Rattle.volume.specs.TakingUp.{LetPass, TookUp, WentOn};
-ghost use Rattle.volume.specs.Volumes.{Alike, CallCame, CallEnds, Carried, CheckpointOf, Housed, KeepEnds, LaidOut, OnlyHand, OnlyShelf, SameLayouts, StaysHoused, distance_in, hand_of, head_of, known, phase_of, granted_row, rowed, shelf_of, source_of, target_of};
+ghost use Rattle.volume.specs.Volumes.{Alike, CallCame, CallEnds, Carried, CheckpointOf, Housed, KeepEnds, KeepsNext, LaidOut, OnlyHand, OnlyShelf, SameLayouts, StaysHoused, distance_in, hand_of, head_of, known, phase_of, granted_row, rowed, shelf_of, source_of, target_of};
 
 pub mod grant;
 mod judge;
@@ -189,7 +189,7 @@ impl<S: Shelf, L: Layout> Volume<S, L> {
     // Saves the next source row into the backup slots.
     pub fn keep(&mut self) -> Result<(), Refused>
         ensures verdict { RefusedBy (keep_verdict (known L.geometry self.old) (S.meaning (shelf_of self.old))) (self.new ≡ self.old) result }
-        ensures ends { Housed (known L.geometry self.old) (S.meaning (shelf_of self.old)) → CallEnds S.meaning L.geometry L.named (keep_verdict (known L.geometry self.old) (S.meaning (shelf_of self.old))) (λ u. Nothing) Keep (self.new ≡ self.old) self.old self.new result }
+        ensures ends { Housed (known L.geometry self.old) (S.meaning (shelf_of self.old)) → CallCame S.meaning L.geometry L.named (keep_verdict (known L.geometry self.old) (S.meaning (shelf_of self.old))) (λ u. Nothing) Keep (self.new ≡ self.old) self.old self.new result }
         ensures housed { StaysHoused S.meaning L.geometry self.old self.new }
     {
         self.judge_keep()?;
@@ -399,7 +399,7 @@ impl<S: Shelf, L: Layout> Volume<S, L> {
 
     // The slots are durable before the checkpoint that names them.
     fn keep_row(&mut self) -> Result<(), Refused>
-        ensures ends { HasVolume L.geometry self.old.array (S.meaning self.old.shelf) → (known L.geometry self.old).kept * (L.geometry self.old.array.source).row_len < self.old.array.head.size → self.old.array.head.number < MOST_NUMBER → KeepEnds S.meaning L.geometry L.named self.old self.new result }
+        ensures ends { HasVolume L.geometry self.old.array (S.meaning self.old.shelf) → KeepsNext (known L.geometry self.old) → KeepEnds S.meaning L.geometry L.named self.old self.new result }
         ensures housed { StaysHoused S.meaning L.geometry self.old self.new }
     {
         let walk = self.array.walk();

@@ -8,4 +8,4 @@ returns-clause-ends g c = λ housed.
     let v = c.args.self.now in
     let judged = c.in_ok-judge_keep.ensures in
     keep_ends mean place g.L.Layout.named _ _ v c.keep_row.new.self judged.verdict c.keep_row.result
-    (c.keep_row.ensures.ends (has_volume mean place v housed judged.enough) judged.live judged.left) c.kept-row.result c.kept-row.ensures c.in_row.result c.in_row.ensures
+    (c.keep_row.ensures.ends (has_volume mean place v housed judged.enough) judged.next) c.kept-row.result c.kept-row.ensures c.in_row.result c.in_row.ensures
