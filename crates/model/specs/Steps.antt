@@ -54,7 +54,7 @@ pub record Passed (w : Crew) (f : Step) (a b : Meaning) : Type 0 where
   pub current : WrittenBy f a b
   pub durable : AllDurable b
 
--- A step was cut: each sector holds what it held, or what the step makes of it.
+-- A step was torn: each sector holds what it held, or what the step makes of it.
 abbrev pub Torn : Step → Meaning → Meaning → Type 0
 Torn f a b = May (λ k s x. x ≡ f a.current k s) a b
 
@@ -74,7 +74,7 @@ Through w [] h a k b = (k ≡ h) × (b ≡ a)
 Through w (Plain f ∷ ps) h a k b = (m : Meaning) × Passed w f a m × Through w ps h m k b
 Through w (Checkpoint s p i ∷ ps) h a k b = (j : Head) × (m : Meaning) × Follows h s p i j × Passed w (headed j) a m × Through w ps j m k b
 
--- cut in one of them, those before it carried out
+-- torn in one of them, those before it carried out
 abbrev pub TornIn : Crew → List Part → (h : Head) → (a b : Meaning) → Type 0
 TornIn w [] h a b = ⊥
 TornIn w (Plain f ∷ ps) h a b = Torn f a b ⊎ ((m : Meaning) × Passed w f a m × TornIn w ps h m b)
