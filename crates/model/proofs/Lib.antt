@@ -8,5 +8,4 @@ pub mod Seeing
 pub mod Slots
 pub mod WorkedAnswers
 pub mod WorkedCalls
-mod WorkedRuns
 pub mod Working

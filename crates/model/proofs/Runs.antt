@@ -11,6 +11,11 @@ use Rattle.model.specs.declared.request.Request.TheVariants.{Open}
 use Rattle.model.specs.Disks.{Disk, each, granted}
 use Rattle.model.specs.Histories.{Account, CallByCall, Called, LawFrom, Linked, Moment, OpensShow, account_after, account_from, account_of, answered_of, by_fault, chosen, disks_after, disks_by, first_disk, is_granted, is_met, is_open, moment_from, shown_by, told_of}
 use Rattle.model.specs.Strays.{stray_count}
+use Rattle.model.specs.Verdicts.{is_held}
+
+-- a hand with a row in it is not empty
+pub held_not_none : {row : ℕ} → Some row ≡ None → ⊥
+held_not_none {row} e = both_ways true (ap is_held e) refl
 
 -- no refusal is granted
 pub refusal_not_granted : (fault : Option Fault) → by_fault fault ≡ Granted → ⊥

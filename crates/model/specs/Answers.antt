@@ -85,6 +85,7 @@ known_left r v k = record { crew = v.crew; number = k.number; size = v.size; bac
 -- The last head after a call that was met: the one before it, or the one that a write was armed by.
 abbrev pub HeadLeft : Request → Head → Head → Type 0
 HeadLeft (Write i x) h k = (k ≡ h) ⊎ Next h h.source h.progress (Some i) k
+HeadLeft Open h k = ⊥
 HeadLeft r h k = k ≡ h
 
 -- Done, told without the sectors: the verdict is none, power and members were enough to the end, the head is the next one, and so is what the volume knows
@@ -128,7 +129,7 @@ pub record CreateGranted (verdict : Option Refusal) (l : Label) (s t : Geometry)
   pub first : First l size backup k
   pub known : u ≡ volume Before s t k None
 
--- met at a write or a flush, as those of begin
+-- met at a write or a flush, which are the operations of a begin
 pub record CreateMet (verdict : Option Refusal) (s t : Geometry) (a b : Meaning) (e : Refused) : Type 0 where
   pub by : verdict ≡ None
   pub met : Met (crew Before s t) (InCall Begin None a) b e
@@ -144,7 +145,7 @@ CreateCame same l s t size backup a u k b (Ok x) = CreateGranted (create_verdict
 CreateCame same l s t size backup a u k b (Err e) =
     ShutFor s t e u × (TurnedAway (create_verdict l s a backup size) same e ⊎ (CreateMet (create_verdict l s a backup size) s t a b e × CreateTorn s l size backup a b))
 
--- refused by what was found, which is written nowhere
+-- refused by what was found; nothing was written
 pub record OpenRefused (sl tl : Label) (s t : Geometry) (a b : Meaning) (e : Refused) : Type 0 where
   pub found : Option Head
   pub mid : Meaning
@@ -160,7 +161,7 @@ pub record OpenGranted (sl tl : Label) (s t : Geometry) (a : Meaning) (u : Volum
   pub last : Disarmed head.armed head k
   pub known : u ≡ opened_volume s t k
 
--- met after the verdict, told on what was found
+-- Met after the verdict, which was told on what was found. An open may read then, as one that redoes a write does.
 pub record OpenMet (sl tl : Label) (s t : Geometry) (a b : Meaning) (e : Refused) : Type 0 where
   pub head : Head
   pub mid : Meaning

@@ -44,13 +44,13 @@ progress_after (Settle row) v l h = Moving l (v.settled + 1) v.kept
 progress_after Finish v l h = Idle
 progress_after r v l h = h.progress
 
--- The last head after a done call. (Open has its own.)
+-- The last head after a done call. Open's is in `Reopening`.
 abbrev pub HeadAfter : Request → Volume → Label → Head → Head → Type 0
 HeadAfter (Write i x) v l h k = Rearmed i h k
 HeadAfter (Read i) v l h k = k ≡ h
 HeadAfter Copy v l h k = k ≡ h
 HeadAfter (HandBack row) v l h k = k ≡ h
-HeadAfter Open v l h k = k ≡ h
+HeadAfter Open v l h k = ⊥
 HeadAfter r v l h k = Next h (source_after r l h) (progress_after r v l h) None k
 
 abbrev pub checkpoint_of : Request → Volume → Label → Head → Part
@@ -171,7 +171,7 @@ pub record CreatedBy (source : Geometry) (l : Label) (size backup : ℕ) (a b : 
   pub fits : Fits k
   pub stands : Passed (crew Before source source) (headed k) mid b
 
--- cut in its head
+-- torn in its head
 pub record FirstTorn (source : Geometry) (l : Label) (size backup : ℕ) (a b : Meaning) : Type 0 where
   pub mid : Meaning
   pub cleared : Passed (crew Before source source) (λ f. created_over source backup f) a mid
@@ -180,6 +180,6 @@ pub record FirstTorn (source : Geometry) (l : Label) (size backup : ℕ) (a b : 
   pub fits : Fits head
   pub torn : Torn (headed head) mid b
 
--- cut in its zeros, or in its head
+-- torn in its zeros, or in its head
 abbrev pub CreateTorn : Geometry → Label → (size backup : ℕ) → (a b : Meaning) → Type 0
 CreateTorn source l size backup a b = Torn (λ f. created_over source backup f) a b ⊎ FirstTorn source l size backup a b

@@ -1,12 +1,11 @@
 -- The law over whole runs. A run is a granted create and the calls that follow it, as they were made; what the law judges is computed from those.
-use Rattle.std.specs.Prelude.{◌≡◌, ℕ, ◌<◌, ◌≤◌, Bool, true, false, cond, not, ◌&&◌, Any, List, [], ◌∷◌, ◌++◌, Some, None, Ok, Err, Option, Result, ◌==◌}
+use Rattle.std.specs.Prelude.{◌≡◌, ℕ, ◌+◌, ◌<◌, ◌≤◌, Bool, true, false, cond, not, ◌&&◌, Any, List, [], ◌∷◌, ◌++◌, Some, None, Ok, Err, Option, Result, ◌==◌}
 use Rattle.answer.specs.declared.Fault.{Fault}
 use Rattle.answer.specs.declared.Refused.{Refused as Refusing}
 use Rattle.layout.specs.Geometry.{Geometry}
 use Rattle.overlap.specs.Needs.{distance_of, need_of}
 use Rattle.overlap.specs.Rows.{LiveRows}
 use Rattle.shelf.specs.Meaning.{Meaning}
-use Rattle.head.specs.declared.state.Head.{Head}
 use Rattle.model.specs.Crew.{borne}
 use Rattle.model.specs.declared.phase.Phase.TheVariants.{Moving}
 use Rattle.model.specs.declared.told.Told.{Told}
@@ -17,7 +16,6 @@ use Rattle.model.specs.declared.request.Answered.TheVariants.{Granted, Refused, 
 use Rattle.model.specs.Disks.{Disk, after, created, each, granted}
 use Rattle.model.specs.Handed.{Handed}
 use Rattle.model.specs.Handed.Handed.{Nothing, Buffer, Distance, Row, Counts}
-use Rattle.model.specs.Heads.{LedBy}
 use Rattle.model.specs.Knowing.{Volume}
 use Rattle.model.specs.Strays.{misplaced_count, stray_count}
 use Rattle.head.specs.declared.TheConstants.{MOST_NUMBER}
@@ -72,7 +70,7 @@ chosen s t a backup v first [] = first
 chosen s t a backup v first (d ∷ ds) = cond (stray_count s t a backup v d == 0) d (chosen s t a backup v first ds)
 
 -- What an onlooker keeps of a run: the layouts that create or a granted open was given last, the backup slots, the disks that the volume
--- may show, whether the stray count is taken, and whether the volume is in use.
+-- may show, whether the stray count is taken, whether the volume is in use, and how many checkpoints it can have made at most.
 pub record Account : Type 0 where
   pub source : Geometry
   pub target : Geometry
@@ -80,9 +78,10 @@ pub record Account : Type 0 where
   pub disks : List Disk
   pub taken : Bool
   pub in_use : Bool
+  pub checkpoints : ℕ
 
 abbrev pub account_of : Creation → Account
-account_of c = record { source = c.source; target = c.target; backup = c.backup; disks = created c.size ∷ []; taken = true; in_use = true }
+account_of c = record { source = c.source; target = c.target; backup = c.backup; disks = created c.size ∷ []; taken = true; in_use = true; checkpoints = 1 }
 
 abbrev pub is_open : Request → Bool
 is_open Open = true
@@ -107,16 +106,20 @@ disks_by r answered c backup ds = after r answered ds
 abbrev pub disks_after : Called → ℕ → List Disk → List Disk
 disks_after c backup ds = disks_by c.request (answered_of c.result) c backup ds
 
--- The count is taken from a granted create or open on, until a call meets power or members lacking or an open is refused.
+-- The count is taken from a granted create or open on, until a call meets power or members lacking or an open is not granted.
 abbrev pub taken_after : Called → Bool → Bool
 taken_after c taken = cond (is_open c.request) (is_granted (answered_of c.result)) (taken && not (is_met (answered_of c.result)))
 
--- The volume is in use from a granted create or open on, until an open is refused.
+-- The volume is in use from a granted create or open on, until an open is not granted.
 abbrev pub in_use_after : Called → Bool → Bool
 in_use_after c in_use = cond (is_open c.request) (is_granted (answered_of c.result)) in_use
 
 abbrev pub granted_open : Called → Bool
 granted_open c = is_open c.request && is_granted (answered_of c.result)
+
+-- no call makes more checkpoints than a write
+abbrev pub most_checkpoints : ℕ
+most_checkpoints = 2
 
 abbrev pub account_after : Called → Account → Account
 account_after c a = record {
@@ -126,6 +129,7 @@ account_after c a = record {
   disks = disks_after c a.backup a.disks;
   taken = taken_after c a.taken;
   in_use = in_use_after c a.in_use;
+  checkpoints = a.checkpoints + most_checkpoints;
 }
 
 -- The call that a move needs next: settle while a row is in hand; else finish when every row is settled, copy unless the next row needs one more kept, and
@@ -143,14 +147,14 @@ takes_number Copy = false
 takes_number r = true
 
 -- The call is the one that is due, and nothing lacks, whatever it pleads: after it power is on and both layouts bear the losses, and before it
--- no head that leads on the shelf has the last number.
+-- fewer checkpoints can have been made than there are numbers.
 pub record CallDue (c : Called) (a : Account) (d : Disk) : Type 0 where
   pub moving : d.phase ≡ Moving
   pub next : due c.request a.source a.target d
   pub on : c.after.shelf.on ≡ true
   pub source : borne a.source c.after.shelf ≡ true
   pub target : borne a.target c.after.shelf ≡ true
-  pub number : takes_number c.request ≡ true → (h : Head) → LedBy c.before.shelf c.before.shelf.members h → h.number < MOST_NUMBER
+  pub number : takes_number c.request ≡ true → a.checkpoints < MOST_NUMBER
 
 -- a finish counts the rows of the disk: all of the target's are settled, and no more are kept than are live
 pub record CountsRows (rows kept : ℕ) (a : Account) (d : Disk) : Type 0 where

@@ -1,4 +1,4 @@
--- What an open makes of its shelf, done or met: what is found, the steps that follow, and the volume that is opened.
+-- What an open makes of its shelf, done or met: what is found, the parts that follow, and the volume that is opened.
 use Rattle.std.specs.Prelude.{◌≡◌, ℕ, List, [], ◌∷◌, Some, None, Option}
 use Rattle.head.specs.declared.TheConstants.{LOGGED_DATUM_AT, LOGGED_PARITY_AT}
 use Rattle.layout.specs.Geometry.{Geometry}
@@ -52,7 +52,7 @@ pub record OpensTo (sl tl : Label) (s t : Geometry) (a b : Meaning) (h k : Head)
   pub parts : OpenParts h.armed s t h mid b list
   pub through : Through (opened_crew s t h) list h mid k b
 
--- the same, cut in one of them
+-- the same, torn in one of them
 pub record OpenTorn (sl tl : Label) (s t : Geometry) (a b : Meaning) (h : Head) : Type 0 where
   pub mid : Meaning
   pub taken : TakenUp sl tl s t a mid h

@@ -35,14 +35,26 @@ pub record SeenBy (w : Crew) (a b : Meaning) (f : Meaning → List ℕ) (x : Lis
   pub enough : enough w (seen_by there a) ≡ true
   pub is : x ≡ f (seen_by there a)
 
--- A step was carried out: nothing else was written, each sector of who is there holds what the step makes of it, and all is durable.
+-- a sector of a member holds what the step makes of it, if the member is there
+abbrev pub MadeAt : Step → (a b : Meaning) → (k s : ℕ) → Type 0
+MadeAt f a b k s = b.present k ≡ true → s < b.sectors → b.current k s ≡ f a.current k s
+
+-- so does each sector of who is there
+abbrev pub WrittenBy : Step → Meaning → Meaning → Type 0
+WrittenBy f a b = (k s : ℕ) → MadeAt f a b k s
+
+-- what is current on who is there is durable
+abbrev pub AllDurable : Meaning → Type 0
+AllDurable b = (k s : ℕ) → b.present k ≡ true → b.durable k s ≡ b.current k s
+
+-- a step was carried out: nothing else was written, and all is written and durable
 pub record Passed (w : Crew) (f : Step) (a b : Meaning) : Type 0 where
   pub may : May (λ k s x. x ≡ f a.current k s) a b
   pub goes : GoesOn w a b
-  pub current : (k s : ℕ) → b.present k ≡ true → s < b.sectors → b.current k s ≡ f a.current k s
-  pub durable : (k s : ℕ) → b.present k ≡ true → b.durable k s ≡ b.current k s
+  pub current : WrittenBy f a b
+  pub durable : AllDurable b
 
--- A step was cut: each sector holds what it held, or what the step makes of it.
+-- A step was torn: each sector holds what it held, or what the step makes of it.
 abbrev pub Torn : Step → Meaning → Meaning → Type 0
 Torn f a b = May (λ k s x. x ≡ f a.current k s) a b
 
@@ -62,7 +74,7 @@ Through w [] h a k b = (k ≡ h) × (b ≡ a)
 Through w (Plain f ∷ ps) h a k b = (m : Meaning) × Passed w f a m × Through w ps h m k b
 Through w (Checkpoint s p i ∷ ps) h a k b = (j : Head) × (m : Meaning) × Follows h s p i j × Passed w (headed j) a m × Through w ps j m k b
 
--- cut in one of them, those before it carried out
+-- torn in one of them, those before it carried out
 abbrev pub TornIn : Crew → List Part → (h : Head) → (a b : Meaning) → Type 0
 TornIn w [] h a b = ⊥
 TornIn w (Plain f ∷ ps) h a b = Torn f a b ⊎ ((m : Meaning) × Passed w f a m × TornIn w ps h m b)

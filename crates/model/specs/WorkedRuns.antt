@@ -14,7 +14,7 @@ use Rattle.model.specs.declared.request.Request.{Request}
 use Rattle.model.specs.declared.request.Request.TheVariants.{Read, Write, Begin, Keep, Copy, Settle, Finish, Open}
 use Rattle.model.specs.Disks.{Disk, disk_of}
 use Rattle.model.specs.Handed.{Handed}
-use Rattle.model.specs.Histories.{Called, Creation, Law, Moment, due, in_use_after, taken_after}
+use Rattle.model.specs.Histories.{Account, Called, Creation, Law, LawOfCall, Moment, due, in_use_after, taken_after}
 use Rattle.model.specs.Handed.Handed.{Nothing, Buffer, Distance, Row, Counts}
 use Rattle.head.specs.Heads.{head_bytes}
 use Rattle.model.specs.Worked.{all, example_shelf, last_number, mirror, stripe}
@@ -192,6 +192,10 @@ walking p q hand = disk_of ((7 ∷ []) ∷ (8 ∷ []) ∷ []) Moving p q hand
 abbrev answers : Request → Result Handed Refused → Called
 answers request result = call request result (still 1 (shelf true blank)) (still 1 (shelf true blank))
 
+-- an account of a keep that is due, when as many checkpoints can have been made as there are numbers
+abbrev spent_account : Account
+spent_account = record { source = mirror; target = stripe; backup = 1; disks = disk_of (replicate 512 0 ∷ replicate 512 0 ∷ []) Moving 0 0 None ∷ []; taken = true; in_use = true; checkpoints = last_number }
+
 -- When the stray count is taken, when the volume is in use, and which call is due.
 pub record CourseExamples : Type 0 where
   pub stays : taken_after (answers (Read 1) (Ok (Buffer []))) true ≡ true
@@ -225,7 +229,7 @@ pub record RunExamples : Type 0 where
   -- A keep that is due may be refused where the power is off after it, met at an operation or before, and where no number is left.
   pub keep_met : RunOfTwo (refuses_keep (cut_at 3) false)
   pub keep_off : RunOfTwo (refuses_keep (not_now PowerLost) false)
-  pub keep_spent : RunOfTwo (refuses_keep_over spent last_number (not_now NumbersSpent) true)
+  pub keep_spent : LawOfCall (call Keep (Err (not_now NumbersSpent)) (under_way 2 0 0 None last_number) (under_way 2 0 0 None last_number)) spent_account
 
 -- Runs that break the law, each in one part.
 pub record BreachExamples : Type 0 where
@@ -240,9 +244,10 @@ pub record BreachExamples : Type 0 where
   -- after a cut, open shows a mixture, and neither candidate
   pub open_other : RunOfTwo (cut_and (open_with half_written ∷ [])) → ⊥
   -- Power, members and numbers are there: no refusal of the call that is due is an excuse, with an operation or without, nor is one of a call before it, or a
-  -- last number that no head has. A copy needs no number.
+  -- last number that the volume takes for its own, be it in its head or not. A copy needs no number.
   pub keep_pleads : (why : Refused) → RunOfTwo (refuses_keep why true) → ⊥
   pub keep_claims : (why : Refused) → RunOfTwo (refuses_keep_over blank last_number why true) → ⊥
+  pub keep_spends : (why : Refused) → RunOfTwo (refuses_keep_over spent last_number why true) → ⊥
   pub read_pleads : (why : Refused) → RunOfTwo (refuses_after_plea why) → ⊥
   pub settle_pleads : (why : Refused) → RunOfTwo (refuses_settle why) → ⊥
   pub copy_pleads : (number : ℕ) (why : Refused) → RunOfTwo (refuses_copy number why) → ⊥

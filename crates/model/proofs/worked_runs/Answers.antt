@@ -1,8 +1,6 @@
 use Rattle.std.proofs.Common.{refl, ap, arith, false, length}
 use Rattle.std.proofs.lemmas.Bool.{both_ways}
-use Rattle.model.specs.WorkedRuns.{last_begun}
-use Rattle.model.proofs.Runs.{refusal_not_granted}
-use Rattle.model.proofs.WorkedRuns.{blank_unled, held_not_none, spent_led}
+use Rattle.model.proofs.Runs.{held_not_none, refusal_not_granted}
 use Rattle.model.proofs.worked_runs.Goals as goal
 
 pub returns : goal.returns
@@ -111,15 +109,10 @@ returns c = record {
       );
     };
     keep_spent = record {
-      linked = (refl, (refl, tt));
-      starts = refl;
-      calls = (
-        record { count = λ t. refl; hands = refl; progress = λ t s. refl; fresh = tt },
-        (
-          record { count = λ t. refl; hands = tt; progress = λ t s. (let few = s.number refl last_begun spent_led in absurd (omega (arith, few))); fresh = tt },
-          tt,
-        ),
-      );
+      count = λ t. refl;
+      hands = tt;
+      progress = λ t s. (let few = s.number refl in absurd (omega (arith, few)));
+      fresh = tt;
     };
   };
   breaches = record {
@@ -136,7 +129,7 @@ returns c = record {
           on = refl;
           source = refl;
           target = refl;
-          number = λ n h led. absurd (blank_unled h led);
+          number = λ n. omega arith;
         }));
     keep_claims = λ why law.
         refusal_not_granted why.fault (law.calls.1.0.progress refl (record {
@@ -145,7 +138,16 @@ returns c = record {
           on = refl;
           source = refl;
           target = refl;
-          number = λ n h led. absurd (blank_unled h led);
+          number = λ n. omega arith;
+        }));
+    keep_spends = λ why law.
+        refusal_not_granted why.fault (law.calls.1.0.progress refl (record {
+          moving = refl;
+          next = (refl, omega arith, omega arith);
+          on = refl;
+          source = refl;
+          target = refl;
+          number = λ n. omega arith;
         }));
     read_pleads = λ why law.
         refusal_not_granted why.fault (law.calls.1.1.0.progress refl (record {
@@ -154,7 +156,7 @@ returns c = record {
           on = refl;
           source = refl;
           target = refl;
-          number = λ n h led. absurd (blank_unled h led);
+          number = λ n. omega arith;
         }));
     settle_pleads = λ why law.
         refusal_not_granted why.fault (law.calls.1.1.1.0.progress refl (record {
@@ -163,7 +165,7 @@ returns c = record {
           on = refl;
           source = refl;
           target = refl;
-          number = λ n h led. absurd (blank_unled h led);
+          number = λ n. omega arith;
         }));
     copy_pleads = λ number why law.
         refusal_not_granted why.fault (law.calls.1.1.0.progress refl (record {
@@ -181,7 +183,7 @@ returns c = record {
           on = refl;
           source = refl;
           target = refl;
-          number = λ n h led. absurd (blank_unled h led);
+          number = λ n. omega arith;
         }));
     distance_other = λ law. (let differs = law.calls.0.hands in omega (arith, differs));
     grant_other = λ law. (let differs = law.calls.1.1.0.hands in omega (arith, differs));

@@ -30,7 +30,7 @@ returns-in_err-apply-clause-ends g c = λ left.
     let v = c.args.self.now in
     let m = c.checkpoint_armed.new.self in
     handed_on (λ r. Carried mean place c.args.entry.sector v (onto m c.apply.new.shelf) r) c.from_residual-in_err-apply.result _ c.from_residual-in_err-apply.ensures.1
-    (apply_met mean place c.args.entry.sector v m c.log.new.shelf c.apply.new.shelf _ c.in_ok-log.ensures.0 c.in_ok-checkpoint_armed.ensures c.in_err-apply.ensures)
+    (apply_met mean place c.args.entry.sector v m c.log.new.shelf c.apply.new.shelf _ c.in_ok-log.ensures.0 c.in_ok-checkpoint_armed.ensures c.in_err-apply.ensures.ends)
 
 pub returns-clause-ends : goal.returns-clause-ends
 returns-clause-ends g c = λ left.
@@ -40,6 +40,6 @@ returns-clause-ends g c = λ left.
     let m = c.checkpoint_armed.new.self in
     let w = c.checkpoint_armed-2.new.self in
     let logged : Going (crew_of place v.array) _ (mean v.shelf) (mean c.log.new.shelf) = record { may = c.in_ok-log.ensures.0; goes = c.in_ok-log.ensures.1 } in
-    let placed : Going (crew_of place m.array) _ (mean m.shelf) (mean c.apply.new.shelf) = record { may = c.in_ok-apply.ensures.0; goes = c.in_ok-apply.ensures.1 } in
+    let placed : Going (crew_of place m.array) _ (mean m.shelf) (mean c.apply.new.shelf) = record { may = c.in_ok-apply.ensures.ends.0; goes = c.in_ok-apply.ensures.ends.1 } in
     disarm_ends mean place c.args.entry.sector v m w c.log.new.shelf c.apply.new.shelf left logged c.in_ok-checkpoint_armed.ensures placed
     c.checkpoint_armed-2.result c.checkpoint_armed-2.ensures
