@@ -1,6 +1,6 @@
 -- Steps that are carried out, and what they make of sectors and of places.
-use Rattle.std.proofs.Common.{◌≡◌, ℕ, ◌+◌, ◌-◌, ◌<◌, Bool, true, ◌&&◌, ◌⊎◌, ◌==◌, nat_le, nat_lt, List, refl, sym, ap, ◌∙◌, subst, inl, inr, arith}
-use Rattle.std.proofs.lemmas.Bool.{and_from, and_parts, cases_Bool, cond-false, cond-true, eq-eqb, le-leb, leb-true, lt-ltb, ne_eqb}
+use Rattle.std.proofs.Common.{◌≡◌, ℕ, ◌+◌, ◌-◌, Bool, true, ◌&&◌, ◌⊎◌, ◌==◌, nat_le, nat_lt, List, refl, sym, ap, ◌∙◌, subst, inl, inr, arith}
+use Rattle.std.proofs.lemmas.Bool.{and_from, and_parts, cases_Bool, cases_eq, cond-false, cond-true, eq-eqb, le-leb, leb-true, lt-ltb, ne_eqb}
 use Rattle.head.specs.declared.TheConstants.{SLOTS_AT}
 use Rattle.layout.specs.Geometry.{Geometry, Is, place_of}
 use Rattle.layout.specs.Lawful.{Lawful, Owns}
@@ -9,15 +9,23 @@ use Rattle.layout.specs.declared.place.Owner.TheVariants.{Datum, Nobody, Parity}
 use Rattle.shelf.specs.Meaning.{Meaning}
 use Rattle.model.specs.Crew.{Crew}
 use Rattle.model.specs.Ends.{GoesOn}
-use Rattle.model.specs.Images.{Image, with_places, with_sector}
+use Rattle.model.specs.Images.{Image, set, with_places, with_sector}
 use Rattle.model.specs.May.{AtSector}
-use Rattle.model.specs.Steps.{Passed, Step, Torn}
+use Rattle.model.specs.Steps.{AllDurable, Passed, Step, Torn, WrittenBy}
 
 -- what is torn nowhere, and durable, was carried out
-pub carried : {w : Crew} (f : Step) {a b : Meaning} → Torn f a b → GoesOn w a b
-    → ((k s : ℕ) → b.present k ≡ true → s < b.sectors → b.current k s ≡ f a.current k s)
-    → ((k s : ℕ) → b.present k ≡ true → b.durable k s ≡ b.current k s) → Passed w f a b
+pub carried : {w : Crew} (f : Step) {a b : Meaning} → Torn f a b → GoesOn w a b → WrittenBy f a b → AllDurable b → Passed w f a b
 carried f torn goes current durable = record { may = torn; goes = goes; current = current; durable = durable }
+
+-- what a step leaves as it was stays durable
+pub left_durable : (f : Step) {a b : Meaning} → Torn f a b → (k s : ℕ) → f a.current k s ≡ a.current k s → a.durable k s ≡ a.current k s
+    → b.durable k s ≡ b.current k s
+left_durable f {a} {b} torn k s left before =
+    let now : b.current k s ≡ a.current k s = elim (torn.current k s) [ inl e ↦ e | inr p ↦ p ∙ left ] in
+    elim (torn.durable k s) [
+      | inl e ↦ e ∙ before ∙ sym now
+      | inr o ↦ elim o [ inl e ↦ e ∙ sym now | inr p ↦ p ∙ left ∙ sym now ]
+    ]
 
 -- one content in the same sector of every member
 pub sector_set : (t : ℕ) (c : List ℕ) (f : Image) (k s : ℕ) → s ≡ t → with_sector t c f k s ≡ c
@@ -76,8 +84,8 @@ owned_cell g backup m n (Datum i j) owns = inl (place_cell g backup m n (Datum i
 owned_cell g backup m n (Parity x) owns = inl (place_cell g backup m n (Parity x) owns.0 owns.1)
 owned_cell g backup m n Nobody owns = inr refl
 
-pub cell_at : (g : Geometry) → Lawful g → (backup m n : ℕ) → CellOf g backup (g.owner (m, n)) m (SLOTS_AT + backup + n) ⊎ (g.owner (m, n) ≡ Nobody)
-cell_at g law backup m n = owned_cell g backup m n (g.owner (m, n)) (law.placing.owned (m, n))
+pub cell_or_nobody : (g : Geometry) → Lawful g → (backup m n : ℕ) → CellOf g backup (g.owner (m, n)) m (SLOTS_AT + backup + n) ⊎ (g.owner (m, n) ≡ Nobody)
+cell_or_nobody g law backup m n = owned_cell g backup m n (g.owner (m, n)) (law.placing.owned (m, n))
 
 -- so each cell is that of an owner, or stays
 pub placed_by : (g : Geometry) → Lawful g → (backup : ℕ) (F : Owner → List ℕ → List ℕ) (f : Image) → ((x : List ℕ) → F Nobody x ≡ x) → (k s : ℕ)
@@ -87,7 +95,7 @@ placed_by g law backup F f idle k s = elim (cases_Bool (in_body g backup k s)) [
       let first = leb-true (SLOTS_AT + backup) s (and_parts (nat_le (SLOTS_AT + backup) s) _ parts.1).0 in
       let n = s - (SLOTS_AT + backup) in
       let at : SLOTS_AT + backup + n ≡ s = omega (arith, first) in
-      elim (cell_at g law backup k n) [
+      elim (cell_or_nobody g law backup k n) [
         | inl c ↦ inl (g.owner (k, n), subst (CellOf g backup (g.owner (k, n)) k) at c)
         | inr none ↦ inr (cond-true (in_body g backup k s) (F (g.owner (k, n)) (f k s)) (f k s) inside ∙ (ap (λ q. F q (f k s)) none ∙ idle (f k s)))
       ])
@@ -97,3 +105,35 @@ placed_by g law backup F f idle k s = elim (cases_Bool (in_body g backup k s)) [
 -- no two owners have the same cell
 pub one_owner : (g : Geometry) → Lawful g → (backup : ℕ) (o q : Owner) (k s : ℕ) → CellOf g backup o k s → CellOf g backup q k s → o ≡ q
 one_owner g law backup o q k s c d = sym (cell_owner g law backup o k s c) ∙ cell_owner g law backup q k s d
+
+-- a write of sector i, at a copy and at the parity of its group
+pub copy_set : (g : Geometry) → Lawful g → (backup i : ℕ) (x y : List ℕ) (f : Image) (j k s : ℕ) → CellOf g backup (Datum i j) k s
+    → with_places g backup (set g i x y) f k s ≡ x
+copy_set g law backup i x y f j k s c = placed_at g law backup (set g i x y) f (Datum i j) k s c ∙ cond-true (i == i) x (f k s) (eq-eqb i i refl)
+
+pub parity_set : (g : Geometry) → Lawful g → (backup i : ℕ) (x y : List ℕ) (f : Image) (k s : ℕ) → CellOf g backup (Parity (g.group i)) k s
+    → with_places g backup (set g i x y) f k s ≡ y
+parity_set g law backup i x y f k s c =
+    placed_at g law backup (set g i x y) f (Parity (g.group i)) k s c ∙ cond-true (g.group i == g.group i) y (f k s) (eq-eqb (g.group i) (g.group i) refl)
+
+-- so each cell is a copy of sector i, the parity of its group, or stays
+abbrev pub SetAt : Geometry → (backup i : ℕ) → (x y : List ℕ) → Image → ℕ → ℕ → Type 0
+SetAt g backup i x y f k s =
+    ((j : ℕ) × CellOf g backup (Datum i j) k s) ⊎ (CellOf g backup (Parity (g.group i)) k s ⊎ (with_places g backup (set g i x y) f k s ≡ f k s))
+
+set_for : (g : Geometry) → Lawful g → (backup i : ℕ) (x y : List ℕ) (f : Image) (k s : ℕ) (o : Owner) → CellOf g backup o k s → SetAt g backup i x y f k s
+set_for g law backup i x y f k s (Datum n j) c = elim (cases_eq n i) [
+  | inl e ↦ inl (j, subst (λ m. CellOf g backup (Datum m j) k s) e c)
+  | inr ne ↦ inr (inr (placed_at g law backup (set g i x y) f (Datum n j) k s c ∙ cond-false (n == i) x (f k s) (ne_eqb n i ne)))
+]
+set_for g law backup i x y f k s (Parity n) c = elim (cases_eq n (g.group i)) [
+  | inl e ↦ inr (inl (subst (λ m. CellOf g backup (Parity m) k s) e c))
+  | inr ne ↦ inr (inr (placed_at g law backup (set g i x y) f (Parity n) k s c ∙ cond-false (n == g.group i) y (f k s) (ne_eqb n (g.group i) ne)))
+]
+set_for g law backup i x y f k s Nobody c = absurd c.is
+
+pub set_by : (g : Geometry) → Lawful g → (backup i : ℕ) (x y : List ℕ) (f : Image) (k s : ℕ) → SetAt g backup i x y f k s
+set_by g law backup i x y f k s = elim (placed_by g law backup (set g i x y) f (λ z. refl) k s) [
+  | inl p ↦ set_for g law backup i x y f k s p.0 p.1
+  | inr stays ↦ inr (inr stays)
+]

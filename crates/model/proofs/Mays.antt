@@ -1,7 +1,7 @@
 -- The relation of every stage: it holds of nothing done, of one stage after another, and of a wider plan.
 use Rattle.std.proofs.Common.{◌≡◌, ℕ, ◌⊎◌, List, sym, refl, ◌∙◌, subst, inl, inr}
 use Rattle.shelf.specs.Meaning.{Meaning}
-use Rattle.model.specs.May.{From, May, OneFrom, nothing}
+use Rattle.model.specs.May.{May, nothing}
 
 pub may_refl : {P : ℕ → ℕ → List ℕ → Type 0} (a : Meaning) → May P a a
 may_refl a = record { members = refl; sectors = refl; off_stays = λ e. e; absent_stays = λ k e. e; current = λ k s. inl refl; durable = λ k s. inl refl }
@@ -45,6 +45,3 @@ may_then {P} {a} {b} {c} m n =
 -- what writes nothing keeps to any plan
 pub quiet : {P : ℕ → ℕ → List ℕ → Type 0} {a b : Meaning} → May nothing a b → May P a b
 quiet m = may_wider (λ k s x p. absurd p) m
-
-pub from_one : {first : ℕ} {c : List ℕ} {a b : Meaning} → May (OneFrom first c) a b → May (From first) a b
-from_one m = may_wider (λ k s x p. record { sector = p.sector }) m

@@ -9,7 +9,7 @@ use Rattle.shelf.specs.Meaning.{Meaning}
 use Rattle.model.specs.Crew.{Crew, enough, enough_by}
 use Rattle.model.specs.Knowing.{Volume}
 use Rattle.model.specs.May.{May, nothing}
-use Rattle.model.specs.Reading.{content_at, content_of, home_by}
+use Rattle.model.specs.Reading.{common, content_at, content_of, home_by}
 use Rattle.model.specs.Steps.{Looked, SeenBy, seen_by}
 use Rattle.model.specs.declared.phase.Phase.{Phase}
 use Rattle.model.specs.declared.phase.Phase.TheVariants.{Before, Moving, After, Shut}
@@ -23,7 +23,7 @@ pub record OfCurrent {A : Type 0} (f : Meaning → A) : Type 0 where
   pub same : (m : Meaning) → f m ≡ f (showing m.members m.sectors m.present m.current)
 
 -- a look leaves what is current
-unwritten : {a b : Meaning} → May nothing a b → b.current ≡ a.current
+pub unwritten : {a b : Meaning} → May nothing a b → b.current ≡ a.current
 unwritten m = fun_ext (λ k. fun_ext (λ s. elim (m.current k s) [ inl e ↦ e | inr w ↦ absurd w ]))
 
 -- so what is read at its end was there at its start, with those that are there at its end
@@ -50,6 +50,10 @@ at_home Backup s t backup i = record { same = λ m. refl }
 pub content_seen : (v : Volume) (i : ℕ) → OfCurrent (λ m. content_of v m i)
 content_seen v i = at_home (home_by v i) v.crew.source v.crew.target v.backup i
 
+-- a sector that every member holds
+pub common_seen : (t : ℕ) → OfCurrent (λ m. common m t)
+common_seen t = record { same = λ m. refl }
+
 -- what a look gives is seen by those that are there at its end
 pub seen : {a b : Meaning} (w : Crew) (f : Meaning → List ℕ) (x : List ℕ) → OfCurrent f → enough w a ≡ true → Looked w a b → x ≡ f b → SeenBy w a b f x
 seen {a} {b} w f x of here looked is = record {
@@ -60,4 +64,14 @@ seen {a} {b} w f x of here looked is = record {
   };
   enough = sym (still (enough w) (enough_of w.phase w.source w.target) looked.may) ∙ looked.goes.enough here;
   is = is ∙ still f of looked.may;
+}
+
+-- what was seen until a later end, by members of whom some may be left
+pub seen_until : {a b c : Meaning} (w : Crew) (f : Meaning → List ℕ) (x : List ℕ) → ((k : ℕ) → c.present k ≡ true → b.present k ≡ true) → SeenBy w a b f x
+    → SeenBy w a c f x
+seen_until w f x were s = record {
+  there = s.there;
+  between = record { left = λ k there. s.between.left k (were k there); were = s.between.were };
+  enough = s.enough;
+  is = s.is;
 }

@@ -35,12 +35,24 @@ pub record SeenBy (w : Crew) (a b : Meaning) (f : Meaning → List ℕ) (x : Lis
   pub enough : enough w (seen_by there a) ≡ true
   pub is : x ≡ f (seen_by there a)
 
--- A step was carried out: nothing else was written, each sector of who is there holds what the step makes of it, and all is durable.
+-- a sector of a member holds what the step makes of it, if the member is there
+abbrev pub MadeAt : Step → (a b : Meaning) → (k s : ℕ) → Type 0
+MadeAt f a b k s = b.present k ≡ true → s < b.sectors → b.current k s ≡ f a.current k s
+
+-- so does each sector of who is there
+abbrev pub WrittenBy : Step → Meaning → Meaning → Type 0
+WrittenBy f a b = (k s : ℕ) → MadeAt f a b k s
+
+-- what is current on who is there is durable
+abbrev pub AllDurable : Meaning → Type 0
+AllDurable b = (k s : ℕ) → b.present k ≡ true → b.durable k s ≡ b.current k s
+
+-- a step was carried out: nothing else was written, and all is written and durable
 pub record Passed (w : Crew) (f : Step) (a b : Meaning) : Type 0 where
   pub may : May (λ k s x. x ≡ f a.current k s) a b
   pub goes : GoesOn w a b
-  pub current : (k s : ℕ) → b.present k ≡ true → s < b.sectors → b.current k s ≡ f a.current k s
-  pub durable : (k s : ℕ) → b.present k ≡ true → b.durable k s ≡ b.current k s
+  pub current : WrittenBy f a b
+  pub durable : AllDurable b
 
 -- A step was cut: each sector holds what it held, or what the step makes of it.
 abbrev pub Torn : Step → Meaning → Meaning → Type 0

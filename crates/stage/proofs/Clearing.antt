@@ -11,12 +11,11 @@ use Rattle.model.specs.Crew.{Crew}
 use Rattle.model.specs.Ends.{GoesOn}
 use Rattle.model.specs.Images.{created_over}
 use Rattle.model.specs.May.{May}
-use Rattle.model.specs.Steps.{Torn}
-use Rattle.model.proofs.Carrying.{CellOf, cell_at}
+use Rattle.model.specs.Steps.{MadeAt, Torn}
+use Rattle.model.proofs.Carrying.{CellOf, cell_or_nobody}
 use Rattle.model.proofs.Clearing.{cleared_again, cleared_by, cleared_cell}
 use Rattle.model.proofs.Mays.{may_wider}
 use Rattle.stage.specs.Done.{WrittenAt}
-use Rattle.stage.specs.Endings.{MadeAt}
 use Rattle.stage.specs.Places.{AtPlace, PlaceHolds}
 use Rattle.stage.proofs.Stepping.{Begun, begun_more, made_left}
 
@@ -44,7 +43,7 @@ ClearedBelow w g backup m n a b = Begun w (created_over g backup) (OwnedBelow g 
 -- the next place, where somebody owns it, is cleared
 pub place_planned : (g : Geometry) → Lawful g → (backup m n : ℕ) (a : Meaning) → n < MOST_DEPTH → (g.owner (m, n) ≢ Nobody) → (k s : ℕ) (x : List ℕ)
     → AtPlace backup (m, n) (replicate 512 0) k s x → x ≡ created_over g backup a.current k s
-place_planned g law backup m n a most some k s x p = elim (cell_at g law backup m n) [
+place_planned g law backup m n a most some k s x p = elim (cell_or_nobody g law backup m n) [
   | inl c ↦ p.content ∙ sym (cleared_cell g law backup a.current (g.owner (m, n)) k s
       (subst (λ j. CellOf g backup (g.owner (m, n)) j s) (sym p.member) (subst (CellOf g backup (g.owner (m, n)) m) (sym (p.offset most)) c)))
   | inr nobody ↦ absurd (some nobody)

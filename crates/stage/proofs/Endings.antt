@@ -8,15 +8,14 @@ use Rattle.shelf.specs.Meaning.{Meaning}
 use Rattle.model.specs.Crew.{Crew}
 use Rattle.model.specs.Ends.{GoesOn, Met, Stage}
 use Rattle.model.specs.Faults.{NamesSector, OnCell, OnSector}
-use Rattle.model.specs.May.{AtSector, InSlots, May, OneFrom, nothing}
+use Rattle.model.specs.May.{AtSector, InSlots, May, nothing}
 use Rattle.overlap.specs.declared.walk.Home.{Home}
 use Rattle.overlap.specs.declared.walk.Home.TheVariants.{Source, Target, Backup}
 use Rattle.layout.specs.Geometry.{Geometry}
 use Rattle.stage.specs.Endings.{HasSize, OnMember, StageEnds, only_writes, reads_and_writes}
 use Rattle.stage.specs.Looks.{HomeHas, OnBody, OnHome}
-use Rattle.stage.specs.Places.{AtPlace}
 use Rattle.stage.proofs.Places.{use_kept}
-use Rattle.stage.proofs.Chains.{names_as}
+use Rattle.stage.proofs.Chains.{names_as, stage_as}
 use Rattle.stage.proofs.Loops.{goes_then, names_same, was_present}
 use Rattle.model.proofs.Mays.{may_then, may_wider}
 
@@ -58,8 +57,7 @@ met_ends w does P Q F a b wider names e s =
 pub stage_ends : {A : Type 0} (w : Crew) (does : Operation → Bool) (P Q : ℕ → ℕ → List ℕ → Type 0) (F : Fault → Type 0) (a b : Meaning) (D : A → Type 0)
     → ((k s : ℕ) (x : List ℕ) → Q k s x → P k s x) → ((f : Fault) → F f → OnMember does a f) → (r : Result A Refused) → Stage w Q F a b D r
     → StageEnds w does P a b r
-stage_ends w does P Q F a b D wider names (Ok x) s = (may_wider wider s.0, s.1, tt)
-stage_ends w does P Q F a b D wider names (Err e) s = met_ends w does P Q F a b wider names e s
+stage_ends w does P Q F a b D wider names r s = stage_as w a b wider names (λ x m d. tt) r s
 
 -- a stage that was met, after what came before it
 pub met_after : {w : Crew} {does : Operation → Bool} {P : ℕ → ℕ → List ℕ → Type 0} {a b : Meaning} (c : Meaning) → Going w P a b → (e : Refused)
@@ -102,9 +100,6 @@ pub on_home : {does : Operation → Bool} (op : Operation) → does op ≡ true 
 on_home op o backup i a f n = elim n [ inl p ↦ on_body op o backup a f p | inr p ↦ on_sector op o a _ f p ]
 
 -- plans
-pub place_plan : (backup : ℕ) (p : ℕ × ℕ) (c : List ℕ) (k s : ℕ) (x : List ℕ) → AtPlace backup p c k s x → OneFrom (3 + backup) c k s x
-place_plan backup p c k s x at = record { sector = at.sector; content = at.content }
-
 pub same_plan : (P : ℕ → ℕ → List ℕ → Type 0) (k s : ℕ) (x : List ℕ) → P k s x → P k s x
 same_plan P k s x p = p
 

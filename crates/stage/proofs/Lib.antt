@@ -3,12 +3,15 @@ pub mod Clearing
 pub mod Crews
 pub mod Earlier
 pub mod Endings
+pub mod Flushed
 pub mod Folds
 pub mod Loops
 pub mod Looks
 pub mod Operations
 pub mod Places
+pub mod Redone
 pub mod Saving
 pub mod Shown
 pub mod Stepping
 pub mod Leading
+pub mod Written

@@ -34,8 +34,8 @@ names_same Flush t a b same n = n
 abbrev pub HoldsIn : ℕ → List ℕ → ℕ → Meaning → Type 0
 HoldsIn t c k b = t < b.sectors → b.current k t ≡ c
 
-abbrev pub AllDurable : ℕ → Meaning → Type 0
-AllDurable k b = (s : ℕ) → b.durable k s ≡ b.current k s
+abbrev pub DurableOn : ℕ → Meaning → Type 0
+DurableOn k b = (s : ℕ) → b.durable k s ≡ b.current k s
 
 -- of members that were found absent
 abbrev pub Nobody : ℕ → Meaning → Type 0

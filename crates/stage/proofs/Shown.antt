@@ -1,5 +1,5 @@
 -- What looks show is what the definitions say.
-use Rattle.std.proofs.Common.{◌≡◌, ℕ, zero, suc, ◌+◌, ◌%◌, ◌<◌, ◌≤◌, ◌≢◌, Bool, true, false, cond, not, ◌&&◌, ◌==◌, nat_eq, nat_lt, List, [], length, replicate, Ok, Err, Result, refl, sym, ap, ◌∙◌, subst, inl, inr, add-one, arith}
+use Rattle.std.proofs.Common.{◌≡◌, ℕ, zero, suc, ◌+◌, ◌%◌, ◌<◌, ◌≤◌, ◌≢◌, Bool, true, false, cond, not, ◌&&◌, ◌==◌, nat_eq, nat_lt, List, [], length, replicate, Ok, Result, refl, sym, ap, ◌∙◌, subst, inl, inr, add-one, arith}
 use mathlib.Core.Path.{fun_ext}
 use Rattle.std.proofs.lemmas.Bool.{cond-true, cond-false, both_ways, cases_Bool, cases_eq, cases_lt, eq-eqb, ne_eqb, le-ltb, lt-ltb}
 use Rattle.answer.specs.declared.Fault.{Fault}
@@ -20,7 +20,7 @@ use Rattle.model.specs.Faults.{OnSector}
 use Rattle.overlap.specs.declared.walk.Home.{Home}
 use Rattle.overlap.specs.declared.walk.Home.TheVariants.{Source, Target, Backup}
 use Rattle.model.proofs.Mays.{may_refl}
-use Rattle.stage.proofs.Chains.{names_as}
+use Rattle.stage.proofs.Chains.{stage_as}
 use Rattle.stage.specs.Done.{FromLowest}
 use Rattle.stage.specs.Looks.{FoldsPlace, HasSector, HomeHas, InLayout, Lies, LostPeer, NoCopy, OnBody, OnHome, OneSure, OthersFolded, PeerGone, Shows, ShowsParity, ShowsSector, Sure, peer_at}
 use Rattle.stage.proofs.Folds.{all, but, but_other, but_self, by_change, on_zeros, with_others}
@@ -34,8 +34,7 @@ held_is a k s lt below =
 -- a look whose fault is one of more
 pub renamed : {A : Type 0} (w : Crew) (F G : Fault → Type 0) (a b : Meaning) (D : A → Type 0) → ((f : Fault) → F f → G f) → (r : Result A Refused)
     → Stage w nothing F a b D r → Stage w nothing G a b D r
-renamed w F G a b D names (Ok x) s = s
-renamed w F G a b D names (Err e) s = (s.0, record { why = s.1.why; fault = names_as F G names e.fault s.1.fault })
+renamed w F G a b D names r s = stage_as w a b (λ k n x p. p) names (λ x m d. d) r s
 
 on_home : (w : Crew) (backup i : ℕ) (a b : Meaning) (f : Meaning → List ℕ) (r : Result (List ℕ) Refused) → Shows w (OnBody Read backup a) a b f r
     → Shows w (OnHome Read backup i a) a b f r

@@ -10,11 +10,10 @@ use Rattle.model.specs.Ends.{GoesOn, Stage}
 use Rattle.model.specs.Faults.{OnSector}
 use Rattle.model.specs.Images.{with_sector}
 use Rattle.model.specs.May.{AtSector, May, nothing}
-use Rattle.model.specs.Steps.{Passed, Step, Torn}
+use Rattle.model.specs.Steps.{MadeAt, Passed, Step, Torn, WrittenBy}
 use Rattle.model.proofs.Carrying.{carried, sector_left}
 use Rattle.model.proofs.Mays.{may_refl, may_then, may_wider, quiet}
 use Rattle.stage.specs.Done.{FlushedAll, WrittenAll}
-use Rattle.stage.specs.Endings.{MadeAt}
 use Rattle.stage.proofs.Chains.{names_as, sector_same}
 use Rattle.stage.proofs.Loops.{goes_then, was_present}
 
@@ -49,7 +48,7 @@ made_left f torn k s left there lt = elim (torn.current k s) [ inl same ↦ same
 
 -- where a step was made, or leaves what was there, all is as it makes it
 pub made_all : {w : Crew} {f : Step} {D : ℕ → ℕ → Type 0} {a b : Meaning} → Begun w f D a b → ((k s : ℕ) → D k s ⊎ (f a.current k s ≡ a.current k s))
-    → (k s : ℕ) → MadeAt f a b k s
+    → WrittenBy f a b
 made_all {w} {f} so covers k s there lt = elim (covers k s) [ inl d ↦ so.made k s d there lt | inr left ↦ made_left f so.may k s left there lt ]
 
 -- written wherever it writes, and then flushed: carried out

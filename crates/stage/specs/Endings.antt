@@ -40,10 +40,6 @@ StageEnds w does P a b r = Stage w P (OnMember does a) a b (λ _. Unit {0}) r
 abbrev pub Carries : Crew → (does : Operation → Bool) → Step → (a b : Meaning) → Result Unit Refused → Type 0
 Carries w does f a b r = Stage w (λ k s x. x ≡ f a.current k s) (OnMember does a) a b (λ u. Passed w f a b) r
 
--- the cell holds what a step makes of it, if its member is there and has such a sector
-abbrev pub MadeAt : Step → (a b : Meaning) → (k s : ℕ) → Type 0
-MadeAt f a b k s = b.present k ≡ true → s < b.sectors → b.current k s ≡ f a.current k s
-
 -- every sector below the size can be had
 pub record HasSize (w : Crew) (homes : ℕ → Home) (source target : Geometry) (backup size : ℕ) (a : Meaning) : Type 0 where
   pub each : (i : ℕ) → i < size → HomeHas (homes i) w source target backup i a

@@ -3,7 +3,8 @@ use Rattle.model.proofs.Mays.{may_wider}
 use Rattle.model.specs.Ends.{Stage}
 use Rattle.model.specs.Images.{created_over}
 use Rattle.stage.specs.Arrays.{crew_of}
-use Rattle.stage.specs.Endings.{MadeAt, OnMember, only_writes}
+use Rattle.stage.specs.Endings.{OnMember, only_writes}
+use Rattle.model.specs.Steps.{MadeAt}
 use Rattle.stage.proofs.Chains.{handed_on}
 use Rattle.stage.proofs.Clearing.{ClearedBelow, member_cleared, place_cleared, place_planned}
 use Rattle.stage.proofs.Endings.{met_after}

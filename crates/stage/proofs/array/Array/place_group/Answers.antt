@@ -1,11 +1,12 @@
 use Rattle.std.proofs.Common.{◌+◌}
 use Rattle.model.specs.May.{From, nothing}
-use Rattle.model.proofs.Mays.{from_one, may_then, may_wider, quiet}
+use Rattle.model.proofs.Mays.{may_then, quiet}
 use Rattle.stage.specs.Arrays.{crew_of}
 use Rattle.stage.specs.Endings.{StageEnds, reads_and_writes}
 use Rattle.stage.specs.Looks.{homes_of}
 use Rattle.stage.proofs.Chains.{handed_on, stage_may}
 use Rattle.stage.proofs.Endings.{Going, ends_after, going_then, member_as, met_after, met_ends, no_plan, size_kept, stage_ends, writes_too}
+use Rattle.stage.proofs.Written.{from_copies, from_place}
 use Rattle.stage.proofs.array.Array.place_group.Goals as goal
 
 pub returns-in_err-content-clause-may : goal.returns-in_err-content-clause-may
@@ -26,7 +27,7 @@ returns-in_err-content-clause-ends g c = λ has.
 
 pub returns-in_err-write_copies-clause-may : goal.returns-in_err-write_copies-clause-may
 returns-in_err-write_copies-clause-may g c =
-    may_then c.loop-index.invariant.0 (may_then (quiet c.content_ahead.ensures.may) (from_one c.in_err-write_copies.ensures.0))
+    may_then c.loop-index.invariant.0 (may_then (quiet c.content_ahead.ensures.may) (from_copies c.in_err-write_copies.ensures.0))
 
 pub returns-in_err-write_copies-clause-ends : goal.returns-in_err-write_copies-clause-ends
 returns-in_err-write_copies-clause-ends g c = λ has.
@@ -47,7 +48,7 @@ returns-in_err-write_copies-clause-ends g c = λ has.
 pub loop-index-preserved : goal.loop-index-preserved
 loop-index-preserved g c =
     let t = c.in_ok-write_copies.ensures in (
-      may_then c.loop-index.invariant.0 (may_then (quiet c.content_ahead.ensures.may) (from_one t.0)),
+      may_then c.loop-index.invariant.0 (may_then (quiet c.content_ahead.ensures.may) (from_copies t.0)),
       λ has.
           let w = crew_of g.L.Layout.geometry c.args.self.now in
           let v = c.args.self.now in
@@ -57,11 +58,11 @@ loop-index-preserved g c =
           let so : Going w P a b = record { may = c.loop-index.invariant.0; goes = c.loop-index.invariant.1 has } in
           let now = size_kept (homes_of g.L.Layout.geometry v) (g.L.Layout.geometry v.source) (g.L.Layout.geometry v.target) v.head.backup v.head.size so has in
           let s = c.in_ok-content.ensures.ends now in
-          (going_then (going_then so (quiet s.0) s.1) (from_one t.0) t.1).goes,
+          (going_then (going_then so (quiet s.0) s.1) (from_copies t.0) t.1).goes,
     )
 
 pub returns-clause-may : goal.returns-clause-may
-returns-clause-may g c = may_then c.loop-index.invariant.0 (may_wider (λ k s x p. record { sector = p.sector }) (stage_may _ _ _ c.write_place.result c.write_place.ensures))
+returns-clause-may g c = may_then c.loop-index.invariant.0 (from_place (stage_may _ _ _ c.write_place.result c.write_place.ensures))
 
 pub returns-clause-ends : goal.returns-clause-ends
 returns-clause-ends g c = λ has.

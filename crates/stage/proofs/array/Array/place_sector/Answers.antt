@@ -1,10 +1,11 @@
 use Rattle.std.proofs.Common.{◌+◌}
 use Rattle.model.specs.May.{From, nothing}
-use Rattle.model.proofs.Mays.{from_one, may_then, quiet}
+use Rattle.model.proofs.Mays.{may_then, quiet}
 use Rattle.stage.specs.Arrays.{crew_of}
 use Rattle.stage.specs.Endings.{StageEnds, reads_and_writes}
 use Rattle.stage.proofs.Chains.{handed_on, stage_may}
 use Rattle.stage.proofs.Endings.{Going, ends_after, member_as, met_ends, no_plan, stage_ends, writes_too}
+use Rattle.stage.proofs.Written.{from_copies}
 use Rattle.stage.proofs.array.Array.place_sector.Goals as goal
 
 pub returns-in_err-content-clause-may : goal.returns-in_err-content-clause-may
@@ -21,7 +22,7 @@ returns-in_err-content-clause-ends g c = λ has.
     (met_ends w _ P nothing _ a d (no_plan P) (λ f n. n) _ (c.in_err-content.ensures.ends has))
 
 pub returns-clause-may : goal.returns-clause-may
-returns-clause-may g c = may_then (quiet c.content_ahead.ensures.may) (from_one (stage_may _ _ _ c.write_copies.result c.write_copies.ensures))
+returns-clause-may g c = may_then (quiet c.content_ahead.ensures.may) (from_copies (stage_may _ _ _ c.write_copies.result c.write_copies.ensures))
 
 pub returns-clause-ends : goal.returns-clause-ends
 returns-clause-ends g c = λ has.

@@ -1,37 +1,55 @@
-use Rattle.std.proofs.Common.{◌+◌, inl, inr}
-use Rattle.model.specs.May.{EitherPlan, OneFrom}
 use Rattle.stage.specs.Arrays.{crew_of}
-use Rattle.stage.specs.Endings.{StageEnds, only_writes}
-use Rattle.stage.proofs.Chains.{handed_on}
+use Rattle.stage.specs.Endings.{OnMember, only_writes}
+use Rattle.stage.specs.Places.{AtCopies, AtPlace, WritesPlaces}
+use Rattle.stage.proofs.Chains.{handed_on, stage_after}
+use Rattle.stage.proofs.Endings.{member_same}
 use Rattle.model.proofs.Mays.{may_wider}
-use Rattle.stage.proofs.Endings.{Going, ends_after, met_ends, place_plan, stage_ends}
+use Rattle.stage.proofs.Written.{PlacesPlan, bare_written, copies_planned, parity_planned, parity_written}
 use Rattle.stage.proofs.array.Array.write_places.Goals as goal
 
 pub returns-in_err-write_copies : goal.returns-in_err-write_copies
 returns-in_err-write_copies g c =
     let w = crew_of g.L.Layout.geometry c.args.self.now in
-    let first = 3 + c.args.self.now.head.backup in
-    let P = EitherPlan (OneFrom first c.args.entry.datum.now) (OneFrom first c.args.entry.parity.now) in
+    let x = g.L.Layout.geometry c.args.layout.now in
+    let law = g.met.L.Layout.lawful c.args.layout.now in
+    let backup = c.args.self.now.head.backup in
+    let e = c.args.entry in
     let a = g.S.Shelf.meaning c.args.shelf.now in
     let d = g.S.Shelf.meaning c.write_copies.new.shelf in
-    handed_on (λ r. StageEnds w only_writes P a d r) c.from_residual.result _ c.from_residual.ensures.1
-    (met_ends w _ P _ _ a d (λ k s x p. inl p) (λ f n. n) _ c.in_err-write_copies.ensures)
+    let s = c.in_err-write_copies.ensures in
+    handed_on (WritesPlaces w x backup e.sector e.datum.now e.parity.now a d) c.from_residual.result _ c.from_residual.ensures.1
+    (may_wider (copies_planned x law backup e.sector e.datum.now e.parity.now a) s.0, s.1)
 
 pub returns-in-Some : goal.returns-in-Some
 returns-in-Some g c =
-    let w = crew_of g.L.Layout.geometry c.args.self.now in
-    let first = 3 + c.args.self.now.head.backup in
-    let P = EitherPlan (OneFrom first c.args.entry.datum.now) (OneFrom first c.args.entry.parity.now) in
+    let x = g.L.Layout.geometry c.args.layout.now in
+    let law = g.met.L.Layout.lawful c.args.layout.now in
+    let backup = c.args.self.now.head.backup in
+    let e = c.args.entry in
     let a = g.S.Shelf.meaning c.args.shelf.now in
     let b = g.S.Shelf.meaning c.write_copies.new.shelf in
     let d = g.S.Shelf.meaning c.write_place.new.shelf in
     let s = c.in_ok-write_copies.ensures in
-    let so : Going w P a b = record { may = may_wider (λ k t x p. inl p) s.0; goes = s.1 } in
-    ends_after only_writes d so c.write_place.result
-    (stage_ends w _ P _ _ b d _ (λ k t x p. inr (place_plan c.args.self.now.head.backup c.parity.result c.args.entry.parity.now k t x p)) (λ f n. n)
-    c.write_place.result c.write_place.ensures)
+    let at = rw c.in-Some.is at c.group.ensures in
+    let C = AtCopies x backup e.sector e.datum.now in
+    let P = PlacesPlan x backup e.sector e.datum.now e.parity.now a in
+    stage_after P (AtPlace backup c.parity.result e.parity.now) (OnMember only_writes b) (OnMember only_writes a) _ _
+    (may_wider (copies_planned x law backup e.sector e.datum.now e.parity.now a) s.0) s.1
+    (parity_planned x law backup e.sector c.in-Some.group c.parity.result e.datum.now e.parity.now a at c.parity.ensures) (member_same {P = C} s.0)
+    (λ u m last. parity_written x law backup e.sector c.in-Some.group c.parity.result e.datum.now e.parity.now a b d at c.parity.ensures s.0 s.2 m last)
+    c.write_place.result c.write_place.ensures
 
 pub returns-in-None : goal.returns-in-None
 returns-in-None g c =
+    let x = g.L.Layout.geometry c.args.layout.now in
+    let law = g.met.L.Layout.lawful c.args.layout.now in
+    let backup = c.args.self.now.head.backup in
+    let e = c.args.entry in
+    let a = g.S.Shelf.meaning c.args.shelf.now in
+    let d = g.S.Shelf.meaning c.write_copies.new.shelf in
     let s = c.in_ok-write_copies.ensures in
-    (may_wider (λ k t x p. inl p) s.0, s.1, tt)
+    let none = rw c.in-None.is at c.group.ensures in (
+      may_wider (copies_planned x law backup e.sector e.datum.now e.parity.now a) s.0,
+      s.1,
+      bare_written x law backup e.sector e.datum.now e.parity.now a d none s.0 s.2,
+    )
