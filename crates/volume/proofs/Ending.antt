@@ -1,34 +1,27 @@
 -- How calls end that are one checkpoint.
-use Rattle.std.proofs.Common.{◌≡◌, ℕ, ◌+◌, ◌<◌, Bool, true, false, Some, None, Ok, Err, Option, Result, inl, inr, refl, sym, ap, ◌∙◌, subst, rules, arith}
+use Rattle.std.proofs.Common.{◌≡◌, ℕ, ◌<◌, Bool, true, false, Some, None, Err, Option, inl, inr, ap, ◌∙◌, arith}
 use Rattle.std.specs.Option.{option_map}
 use Rattle.answer.specs.Faults.{fault_in_row, in_row}
 use Rattle.answer.specs.declared.Fault.{Fault}
 use Rattle.answer.specs.declared.Operation.{Operation}
 use Rattle.answer.specs.declared.Operation.TheVariants.{Flush, Write as Writes}
-use Rattle.answer.specs.declared.Refusal.{Refusal}
 use Rattle.answer.specs.declared.Refused.{Refused}
-use Rattle.layout.specs.Geometry.{Geometry}
 use Rattle.layout.specs.declared.label.Label.{Label}
-use Rattle.head.specs.Heads.{kept_rows, settled_rows}
 use Rattle.head.specs.declared.TheConstants.{MOST_NUMBER}
 use Rattle.head.specs.declared.state.Head.{Head}
 use Rattle.head.specs.declared.state.Progress.{Progress}
-use Rattle.head.specs.declared.state.Progress.TheVariants.{Moving}
 use Rattle.shelf.specs.Meaning.{Meaning}
 use Rattle.model.specs.Answers.{InCall, operates}
 use Rattle.model.specs.Crew.{Crew}
 use Rattle.model.specs.Ends.{Met, Names}
 use Rattle.model.specs.Faults.{OnHeads}
-use Rattle.model.specs.Handed.Handed.{Nothing}
-use Rattle.model.specs.Verdicts.{emptied}
 use Rattle.model.specs.declared.request.Request.{Request}
-use Rattle.model.specs.declared.request.Request.TheVariants.{Settle}
 use Rattle.stage.specs.Checkpoint.{Checkpointed}
 use Rattle.stage.specs.Endings.{OnMember}
 use Rattle.stage.proofs.Endings.{on_sector}
 use Rattle.volume.specs.declared.Volume.{Volume}
-use Rattle.volume.specs.Volumes.{CallEnds, CheckpointOf, OnlyHand, rowed}
-use Rattle.volume.proofs.Looking.{in_call, in_call_of_row}
+use Rattle.volume.specs.Volumes.{OnlyHand}
+use Rattle.volume.proofs.Looking.{in_call}
 
 -- a head on its way is written and flushed on members
 pub heads_on_member : {does : Operation → Bool} → does Writes ≡ true → does Flush ≡ true → (a : Meaning) (f : Fault) → OnHeads a f → OnMember does a f
