@@ -43,13 +43,17 @@ pub through_one : {w : Crew} {s : Label} {p : Progress} {i : Option ℕ} {h k : 
     → Through w (Checkpoint s p i ∷ []) h a k b
 through_one {w} {s} {p} {i} {h} {k} {a} {b} c fits = (k, b, record { next = c.0; fits = fits }, c.1, (refl, refl))
 
--- or it was met, where a number was left
-pub torn_one : {w : Crew} {s : Label} {p : Progress} {i : Option ℕ} {h k : Head} {a b : Meaning} (e : Refused) → h.number < MOST_NUMBER
-    → Checkpointed w s p i h k a b (Err e) → TornIn w (Checkpoint s p i ∷ []) h a b
-torn_one {w} {s} {p} {i} {h} {k} {a} {b} e lt c = elim c.1 [
+-- or it was met, where a number was left, whatever was to follow
+pub torn_at : {w : Crew} {s : Label} {p : Progress} {i : Option ℕ} {h k : Head} {a b : Meaning} (ps : List Part) (e : Refused) → h.number < MOST_NUMBER
+    → Checkpointed w s p i h k a b (Err e) → TornIn w (Checkpoint s p i ∷ ps) h a b
+torn_at {w} {s} {p} {i} {h} {k} {a} {b} ps e lt c = elim c.1 [
   | inl spent ↦ (let last = spent.last in absurd (omega (arith, lt, last)))
   | inr m ↦ (m.head, record { next = m.next; fits = m.fits }, inl m.torn)
 ]
+
+pub torn_one : {w : Crew} {s : Label} {p : Progress} {i : Option ℕ} {h k : Head} {a b : Meaning} (e : Refused) → h.number < MOST_NUMBER
+    → Checkpointed w s p i h k a b (Err e) → TornIn w (Checkpoint s p i ∷ []) h a b
+torn_one e lt c = torn_at [] e lt c
 
 -- after a step over so many sectors, if there are any
 pub through_first : (w : Crew) (h k : Head) (a m b : Meaning) (n : ℕ) (f : Step) (ps : List Part) → (n ≡ 0 → m ≡ a) → (0 < n → Passed w f a m) → Through w ps h m k b

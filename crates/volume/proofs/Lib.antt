@@ -1,6 +1,7 @@
 pub mod Ending
 pub mod Housing
 pub mod Looking
+pub mod Carrying
 pub mod Coming
 pub mod Slots
 pub mod Laying

@@ -1,5 +1,5 @@
 -- What clauses read of a volume.
-use Rattle.std.specs.Prelude.{◌≡◌, ℕ, ◌*◌, ◌<◌, ◌≤◌, ◌⊎◌, [], Some, None, Ok, Err, OnOk, Option, Result}
+use Rattle.std.specs.Prelude.{◌≡◌, ℕ, ◌*◌, ◌<◌, ◌≤◌, ◌⊎◌, [], Some, None, Ok, Err, OnOk, Option, Result, List, ◌∷◌}
 use Rattle.answer.specs.Faults.{in_row}
 use Rattle.answer.specs.declared.Refusal.{Refusal}
 use Rattle.answer.specs.declared.Refused.{Refused}
@@ -12,13 +12,16 @@ use Rattle.layout.specs.declared.label.Label.{Label}
 use Rattle.overlap.specs.Needs.{distance_of}
 use Rattle.shelf.specs.Meaning.{Meaning}
 use Rattle.model.specs.Answers.{Came, CreateMet, Ended, HeadLeft, TurnedAway}
-use Rattle.model.specs.Crew.{crew}
+use Rattle.model.specs.Crew.{crew, Crew}
 use Rattle.model.specs.Effects.{CreateTorn, CreatedBy, DoneBy, First, HeadAfter, MetBy, Rearmed, known_after}
 use Rattle.model.specs.Ends.{GoesOn, Met}
 use Rattle.model.specs.Handed.{Handed}
+use Rattle.model.specs.Images.{logged}
 use Rattle.model.specs.Knowing.{Volume as Known}
 use Rattle.model.specs.Readable.{Room}
 use Rattle.model.specs.Verdicts.{window_after_keep}
+use Rattle.model.specs.Steps.{Part, Through, TornIn}
+use Rattle.model.specs.Steps.Part.{Checkpoint, Plain}
 use Rattle.model.specs.declared.phase.Phase.{Phase}
 use Rattle.model.specs.declared.phase.Phase.TheVariants.{Before, Moving, After, Shut}
 use Rattle.model.specs.declared.request.Request.{Request}
@@ -26,6 +29,8 @@ use Rattle.model.specs.declared.request.Request.TheVariants.{Keep, Write}
 use Rattle.stage.specs.Arrays.{crew_of, volume_on}
 use Rattle.stage.specs.Checkpoint.{Checkpointed}
 use Rattle.stage.specs.Endings.{OnMember, only_writes, reads_and_writes}
+use Rattle.stage.specs.Places.{home_step}
+use Rattle.stage.specs.declared.array.Array.{Array}
 use Rattle.volume.specs.declared.Volume.{Volume}
 use Rattle.volume.specs.declared.grant.Grant.{Grant}
 
@@ -136,10 +141,26 @@ pub record Alike {S L : Type 0} (mean : S → Meaning) (v w : Volume S L) : Type
 abbrev pub StaysOn : {S L : Type 0} → (S → Meaning) → (L → Geometry) → (v w : Volume S L) → Type 0
 StaysOn mean place v w = GoesOn (crew_of place v.array) (mean v.shelf) (mean w.shelf)
 
--- a write of sector i that was carried out, or met
-abbrev pub Carried : {S L : Type 0} → (S → Meaning) → (L → Geometry) → ℕ → (v w : Volume S L) → Result Unit Refused → Type 0
-Carried mean place i v w (Ok x) = Rearmed i v.array.head w.array.head × StaysOn mean place v w
-Carried mean place i v w (Err e) = HeadLeft (Write i []) v.array.head w.array.head × Met (crew_of place v.array) (OnMember only_writes (mean v.shelf)) (mean w.shelf) e
+-- parts that followed one another, or were cut in one of them
+abbrev pub PartsEnd : Crew → List Part → (h : Head) → (a : Meaning) → (k : Head) → (b : Meaning) → Result Unit Refused → Type 0
+PartsEnd w ps h a k b (Ok x) = Through w ps h a k b
+PartsEnd w ps h a k b (Err e) = TornIn w ps h a b
+
+-- the parts of a write of sector i, from its places on and all of them
+abbrev pub places_parts : {L : Type 0} → (L → Geometry) → Array L → (i : ℕ) → (datum parity : List ℕ) → List Part
+places_parts place v i x y = Plain (λ f. home_step place v i x y f) ∷ Checkpoint v.head.source v.head.progress None ∷ []
+
+abbrev pub write_parts : {L : Type 0} → (L → Geometry) → Array L → (i : ℕ) → (datum parity : List ℕ) → List Part
+write_parts place v i x y = Plain (λ f. logged x y f) ∷ Checkpoint v.head.source v.head.progress (Some i) ∷ places_parts place v i x y
+
+-- a write of sector i, with its datum and its parity, that was carried out, or met
+abbrev pub Carried : {S L : Type 0} → (S → Meaning) → (L → Geometry) → (i : ℕ) → (datum parity : List ℕ) → (v w : Volume S L) → Result Unit Refused → Type 0
+Carried mean place i x y v w (Ok u) =
+    Rearmed i v.array.head w.array.head × StaysOn mean place v w
+    × PartsEnd (crew_of place v.array) (write_parts place v.array i x y) v.array.head (mean v.shelf) w.array.head (mean w.shelf) (Ok u)
+Carried mean place i x y v w (Err e) =
+    HeadLeft (Write i []) v.array.head w.array.head × Met (crew_of place v.array) (OnMember only_writes (mean v.shelf)) (mean w.shelf) e
+    × PartsEnd (crew_of place v.array) (write_parts place v.array i x y) v.array.head (mean v.shelf) w.array.head (mean w.shelf) (Err e)
 
 -- The next source row can be kept: the volume moves, the row is live, the slots take its window, and a number is left.
 pub record KeepsNext (v : Known) : Type 0 where

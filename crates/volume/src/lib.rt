@@ -15,6 +15,7 @@ ghost use Rattle.model.specs.Knowing.{phase_by};
 ghost use Rattle.model.specs.Opening.{Restarted};
 ghost use Rattle.model.specs.Verdicts.{RefusedBy, ShutsBy, begin_verdict, copy_verdict, create_verdict, emptied, finish_verdict, hand_back_verdict, is_hand, keep_verdict, read_verdict, settle_verdict, write_verdict};
 ghost use Rattle.stage.specs.Endings.{HasVolume};
+ghost use Rattle.stage.specs.Places.{HasHome};
 ghost use Rattle.volume.specs.TakingUp.{LetPass, TookUp, WentOn};
 ghost use Rattle.volume.specs.Volumes.{Alike, CallCame, CallEnds, Carried, CheckpointOf, Housed, KeepEnds, KeepsNext, LaidOut, OnlyHand, OnlyShelf, SameLayouts, StaysHoused, distance_in, hand_of, head_of, known, phase_of, granted_row, rowed, shelf_of, source_of, target_of};
 
@@ -162,7 +163,7 @@ impl<S: Shelf, L: Layout> Volume<S, L> {
     // Writes a sector: into the log, then, with the head armed for it, to every place of its home.
     pub fn write(&mut self, sector: u64, buffer: &[u8]) -> Result<(), Refused>
         ensures verdict { RefusedBy (write_verdict (known L.geometry self.old) (S.meaning (shelf_of self.old)) sector (length buffer.now)) (self.new ≡ self.old) result }
-        ensures ends { Housed (known L.geometry self.old) (S.meaning (shelf_of self.old)) → CallEnds S.meaning L.geometry L.named (write_verdict (known L.geometry self.old) (S.meaning (shelf_of self.old)) sector (length buffer.now)) (λ u. Nothing) (Write sector buffer.now) (self.new ≡ self.old) self.old self.new result }
+        ensures ends { Housed (known L.geometry self.old) (S.meaning (shelf_of self.old)) → CallCame S.meaning L.geometry L.named (write_verdict (known L.geometry self.old) (S.meaning (shelf_of self.old)) sector (length buffer.now)) (λ u. Nothing) (Write sector buffer.now) (self.new ≡ self.old) self.old self.new result }
         ensures housed { StaysHoused S.meaning L.geometry self.old self.new }
     {
         self.judge_write(sector, buffer.len())?;
@@ -348,7 +349,7 @@ impl<S: Shelf, L: Layout> Volume<S, L> {
     // A write goes into the log, then, with the head armed for it, to every place of its home.
     fn carry_out(&mut self, entry: Entry) -> Result<(), Refused>
         ensures alike { Alike S.meaning self.old self.new }
-        ensures ends { self.old.array.head.number + 2 ≤ MOST_NUMBER → Carried S.meaning L.geometry entry.entry.sector self.old self.new result }
+        ensures ends { self.old.array.head.number + 2 ≤ MOST_NUMBER → HasHome L.geometry self.old.array entry.entry.sector → Carried S.meaning L.geometry entry.entry.sector entry.entry.datum.now entry.entry.parity.now self.old self.new result }
     {
         self.array.log(&mut self.shelf, entry)?;
         self.checkpoint_armed(Some(entry.sector))?;

@@ -1,12 +1,12 @@
-use Rattle.std.proofs.Common.{◌≡◌, length, inr, inl, refl}
+use Rattle.std.proofs.Common.{◌≡◌, length, inr, inl, refl, subst, rules}
 use Rattle.model.specs.Handed.Handed.{Nothing}
 use Rattle.model.specs.Reading.{home_by}
 use Rattle.model.specs.Verdicts.{write_verdict}
 use Rattle.model.specs.declared.request.Request.TheVariants.{Write}
 use Rattle.stage.proofs.Chains.{handed_on}
-use Rattle.volume.specs.Volumes.{CallEnds, known}
+use Rattle.volume.specs.Volumes.{CallCame, known}
 use Rattle.volume.proofs.Housing.{home_has}
-use Rattle.volume.proofs.Writing.{onto, parity_met, write_ends}
+use Rattle.volume.proofs.Writing.{in_home, onto, parity_met, write_ends}
 use Rattle.volume.proofs.Volume.write.Goals as goal
 
 pub returns-in_err-parity-clause-ends : goal.returns-in_err-parity-clause-ends
@@ -21,9 +21,12 @@ returns-in_err-parity-clause-ends g c = λ housed.
     let judged = c.in_ok-judge_write.ensures in
     let shown = c.in_err-parity.ensures.shows (home_has u a i housed judged.enough judged.below) in
     let w = onto v c.parity_after.new.shelf in
-    handed_on (λ r. CallEnds g.S.Shelf.meaning place g.L.Layout.named (write_verdict u a i (length x)) (λ y. Nothing) (Write i x) (w ≡ v) v w r)
+    handed_on (λ r. CallCame g.S.Shelf.meaning place g.L.Layout.named (write_verdict u a i (length x)) (λ y. Nothing) (Write i x) (w ≡ v) v w r)
     c.from_residual-in_err-parity.result _ c.from_residual-in_err-parity.ensures.1
-    (inr (record { by = judged.verdict; met = parity_met (home_by u i) u.crew u.crew.source u.crew.target u.backup i _ a b _ shown; head = inl refl; known = refl }))
+    (inr (
+      record { by = judged.verdict; met = parity_met (home_by u i) u.crew u.crew.source u.crew.target u.backup i _ a b _ shown; head = inl refl; known = refl },
+      inl shown.0,
+    ))
 
 pub returns-clause-ends : goal.returns-clause-ends
 returns-clause-ends g c = λ housed.
@@ -35,6 +38,11 @@ returns-clause-ends g c = λ housed.
     let i = c.args.sector in
     let x = c.args.buffer.now in
     let judged = c.in_ok-judge_write.ensures in
-    let shown = c.in_ok-parity.ensures.shows (home_has u a i housed judged.enough judged.below) in
-    write_ends mean place g.L.Layout.named (write_verdict u a i (length x)) (c.carry_out.new.self ≡ v) i x v c.carry_out.new.self c.parity_after.new.shelf judged.verdict
-    (record { may = shown.0; goes = shown.1 }) c.carry_out.ensures.alike c.carry_out.result (c.carry_out.ensures.ends judged.left)
+    let has = home_has u a i housed judged.enough judged.below in
+    let datum = c.in_ok-datum.datum.now in
+    let is : datum ≡ x = search rules in
+    let w = c.carry_out.new.self in
+    subst (λ y. CallCame mean place g.L.Layout.named (write_verdict u a i (length x)) (λ z. Nothing) (Write i y) (w ≡ v) v w c.carry_out.result) is
+    (write_ends mean place g.L.Layout.named (write_verdict u a i (length x)) (w ≡ v) i datum c.in_ok-parity.field-0 v w c.parity_after.new.shelf judged.verdict judged.enough
+    (c.in_ok-parity.ensures.shows has) c.carry_out.ensures.alike c.carry_out.result
+    (c.carry_out.ensures.ends judged.left (in_home (home_by u i) u.crew u.crew.source u.crew.target u.backup i a has)))
