@@ -112,8 +112,7 @@ head_first None s t h a b here left = ([], refl)
 head_first (Some i) s t h a b here left =
     let w = opened_crew s t h in
     let x = common a LOGGED_DATUM_AT in
-    let y = common a LOGGED_PARITY_AT in
-    (
+    let y = common a LOGGED_PARITY_AT in (
       Plain (λ f. applied (home_by (opened_volume s t h) i) s t h.backup i x y f) ∷ Checkpoint h.source h.progress None ∷ [],
       record {
         datum = x;
@@ -131,8 +130,7 @@ spread_met mean place v shelf e pass cut =
     let s = place v.array.source in
     let t = place v.array.target in
     let h = v.array.head in
-    let first = head_first h.armed s t h (mean v.shelf) (mean shelf) (subst (λ w. enough w (mean v.shelf) ≡ true) (opened_as mean place v pass) pass.enough) (was_present cut.0) in
-    (
+    let first = head_first h.armed s t h (mean v.shelf) (mean shelf) (subst (λ w. enough w (mean v.shelf) ≡ true) (opened_as mean place v pass) pass.enough) (was_present cut.0) in (
       met_as (OnHeads (mean v.shelf)) (OnMember reads_and_writes (mean v.shelf)) (heads_on_member refl refl (mean v.shelf)) e cut.1,
       record { list = Plain (λ f. headed h f) ∷ first.0; parts = first.1; ends = inl cut.0 },
     )
@@ -162,7 +160,7 @@ disarm h = Checkpoint h.source h.progress None ∷ []
 redo_went : {S L : Type 0} (mean : S → Meaning) (place : L → Geometry) (i : ℕ) (v w : Volume S L) (before after : S) → LetPass mean place v → v.array.head.armed ≡ Some i
     → Passed (crew_of place v.array) (headed v.array.head) (mean v.shelf) (mean before) → (o r : Result Unit Refused) → RedoneBy place (by_head v.array) i (mean before) (mean after) o
     → ((f : Step) → Carries (crew_of place (by_head v.array)) reads_and_writes f (mean before) (mean after) o
-        → PartsEnd (crew_of place (by_head v.array)) (Plain f ∷ disarm v.array.head) v.array.head (mean before) w.array.head (mean w.shelf) r)
+    → PartsEnd (crew_of place (by_head v.array)) (Plain f ∷ disarm v.array.head) v.array.head (mean before) w.array.head (mean w.shelf) r)
     → ((k : ℕ) → (mean w.shelf).present k ≡ true → (mean after).present k ≡ true) → OpenedBy mean place v w r
 redo_went mean place i v w before after pass is passed o r redone rest left =
     let s = place v.array.source in
@@ -208,7 +206,7 @@ disarmed mean place i v w before after pass is passed redone r c =
     let e = mean w.shelf in
     let k = w.array.head in
     let last = checkpoint_last (crew_of place (by_head v.array)) h.source h.progress None h k b e (number_left h.armed i h.number is pass.left) r
-        (subst (λ y. Checkpointed y h.source h.progress None h k b e r) own c.stage) c.fits in
+    (subst (λ y. Checkpointed y h.source h.progress None h k b e r) own c.stage) c.fits in
     redo_went mean place i v w before after pass is passed (Ok tt) r
     (subst (λ y. RedoneBy place y i (mean before) b (Ok tt)) (by_its_head v.array pass.phase) redone)
     (λ f s. plain_then (disarm h) h k (mean before) b e s.2 r last)
@@ -222,8 +220,8 @@ pub redo_ends : {S L : Type 0} (mean : S → Meaning) (place : L → Geometry) (
 redo_ends mean place i v w before after pass is passed redone (Ok u) c = disarmed mean place i v w before after pass is passed redone (Ok u) c
 redo_ends mean place i v w before after pass is passed redone (Err e) c = (
   met_later passed.may (OnMember reads_and_writes (mean before)) (λ f n. n) e
-  (met_later redone.carries.0 (OnHeads (mean after)) (heads_on_member refl refl (mean after)) e
-  (checkpoint_met e (number_left v.array.head.armed i v.array.head.number is pass.left) c.stage)),
+      (met_later redone.carries.0 (OnHeads (mean after)) (heads_on_member refl refl (mean after)) e
+      (checkpoint_met e (number_left v.array.head.armed i v.array.head.number is pass.left) c.stage)),
   disarmed mean place i v w before after pass is passed redone (Err e) c,
 )
 

@@ -36,8 +36,7 @@ returns-clause-ends g c = λ housed.
     let judged = c.in_ok-judge_read.ensures in
     let shown = c.in_ok-content.ensures.shows (home_has u a i housed judged.enough judged.below) in
     let b = g.S.Shelf.meaning c.show.new.shelf in
-    let h = v.array.head in
-    (
+    let h = v.array.head in (
       record {
         by = judged.verdict;
         goes = shown.1;
