@@ -15,7 +15,7 @@ use Rattle.model.specs.Contents.{at, gathered, held, rebuilt, some}
 use Rattle.model.specs.Crew.{Crew, absent, count, enough, enough_by}
 use Rattle.model.specs.May.{May}
 use Rattle.model.specs.Readable.{some_copy}
-use Rattle.model.specs.Reading.{content_at, laid, lowest}
+use Rattle.model.specs.Reading.{common, content_at, laid, lowest}
 use Rattle.model.specs.Steps.{SeenBy, seen_by}
 use Rattle.model.specs.declared.phase.Phase.{Phase}
 use Rattle.model.specs.declared.phase.Phase.TheVariants.{Before, Moving, After, Shut}
@@ -133,6 +133,19 @@ seen_before {w} {P} {a} {b} h s t law next backup i has m same x seen = record {
   is = seen.is ∙ home_alike w a b seen.there h s t law next backup i (home_seen w h s t backup i seen.there b seen.enough has)
       (record { members = m.members; sectors = m.sectors; current = same });
 }
+
+-- the same of a sector that every member holds
+pub sector_before : {w : Crew} {P : ℕ → ℕ → List ℕ → Type 0} {a b d : Meaning} (t : ℕ) → May P a b → ((k : ℕ) → b.current k t ≡ a.current k t) → (x : List ℕ)
+    → SeenBy w b d (λ m. common m t) x → SeenBy w a d (λ m. common m t) x
+sector_before {w} {P} {a} {b} t m same x seen =
+    let here : Alike (λ k n. n ≡ t) a b =
+    record { members = m.members; sectors = m.sectors; current = λ k n e. ap (b.current k) e ∙ (same k ∙ ap (a.current k) (sym e)) } in
+    record {
+      there = seen.there;
+      between = record { left = seen.between.left; were = λ k there. was_present m k (seen.between.were k there) };
+      enough = sym (enough_alike w.phase w.source w.target seen.there a b m.members) ∙ seen.enough;
+      is = seen.is ∙ (ap (λ n. held (seen_by seen.there b) (lowest seen.there n) t) m.members ∙ held_alike seen.there here (lowest seen.there a.members) t refl);
+    }
 
 -- and what was seen stays so
 pub seen_later : {w : Crew} {P : ℕ → ℕ → List ℕ → Type 0} {a b d : Meaning} (f : Meaning → List ℕ) (x : List ℕ) → May P b d → SeenBy w a b f x → SeenBy w a d f x

@@ -6,7 +6,7 @@ ghost use Rattle.std.specs.Prelude.{◌≡◌, ◌+◌, ◌*◌, ◌<◌, ◌≤
 ghost use Rattle.head.specs.declared.TheConstants.{MOST_NUMBER, SLOTS_AT};
 ghost use Rattle.head.specs.Heads.{kept_rows, settled_rows};
 ghost use Rattle.head.specs.declared.state.Progress.TheVariants.{Moving as UnderWay};
-ghost use Rattle.model.specs.Answers.{CreateCame, OpenEnded};
+ghost use Rattle.model.specs.Answers.{CreateCame, OpenCame};
 ghost use Rattle.model.specs.Handed.Handed.{Buffer, Counts, Distance, Nothing, Row};
 ghost use Rattle.model.specs.declared.request.Request.TheVariants.{Begin, Copy, Finish, HandBack, Keep, Read, Settle, Write};
 ghost use Rattle.model.specs.May.{From, May, nothing};
@@ -72,7 +72,7 @@ impl<S: Shelf, L: Layout> Volume<S, L> {
 
     // The volume that a shelf holds, once power is back. An idle head needs the source only. It stands beside the result, as in create.
     pub fn open(shelf: S, source: L, target: L) -> (Volume<S, L>, Result<(), Refused>)
-        ensures ends { OpenEnded (L.named source) (L.named target) (L.geometry source) (L.geometry target) (S.meaning shelf) (known L.geometry result.0) (head_of result.0) (S.meaning (shelf_of result.0)) result.1 }
+        ensures ends { OpenCame (L.named source) (L.named target) (L.geometry source) (L.geometry target) (S.meaning shelf) (known L.geometry result.0) (head_of result.0) (S.meaning (shelf_of result.0)) result.1 }
         ensures housed { OnOk result.1 (Housed (known L.geometry result.0) (S.meaning (shelf_of result.0))) }
     {
         let mut volume = Volume::unopened(shelf, source, target);
