@@ -15,15 +15,19 @@ use Rattle.model.specs.Contents.{at, gathered, held, rebuilt, some}
 use Rattle.model.specs.Crew.{Crew, absent, count, enough, enough_by}
 use Rattle.model.specs.May.{May}
 use Rattle.model.specs.Readable.{some_copy}
-use Rattle.model.specs.Reading.{common, content_at, laid, lowest}
+use Rattle.model.specs.Reading.{common, content_at, home_by, laid, lowest}
 use Rattle.model.specs.Steps.{SeenBy, seen_by}
 use Rattle.model.specs.declared.phase.Phase.{Phase}
 use Rattle.model.specs.declared.phase.Phase.TheVariants.{Before, Moving, After, Shut}
 use Rattle.model.proofs.Mays.{may_refl}
 use Rattle.model.proofs.Readable.{enough_read}
 use Rattle.model.proofs.Seeing.{OfCurrent, seen}
+use Rattle.model.specs.Ends.{GoesOn}
+use Rattle.model.specs.Knowing.{Volume}
+use Rattle.stage.specs.Endings.{HasSize}
 use Rattle.stage.specs.Looks.{HasSector, HomeHas}
-use Rattle.stage.specs.Rows.{InRow, Reads}
+use Rattle.stage.specs.Rows.{InRow, MayRead}
+use Rattle.stage.proofs.Endings.{size_kept}
 use Rattle.stage.proofs.Folds.{gathered_alike}
 use Rattle.stage.proofs.Loops.{was_present}
 
@@ -42,7 +46,7 @@ held_alike {C} {a} {b} there e k n c =
 place_alike : {a b : Meaning} (there : ℕ → Bool) (g : Geometry) (backup row : ℕ) → Alike (InRow g backup row) a b → (o : Owner) → Is g o → owner_row g o ≡ row
     → at (seen_by there b) backup (place_of g o) ≡ at (seen_by there a) backup (place_of g o)
 place_alike there g backup row e o is in_row =
-    held_alike there e (place_of g o).0 (SLOTS_AT + backup + (place_of g o).1) (record { owner = o; is = is; row = in_row; member = refl; sector = refl })
+    held_alike there e (place_of g o).0 (SLOTS_AT + backup + (place_of g o).1) (record { owner = o; is = is; which = in_row; member = refl; sector = refl })
 
 lowest_below : (f : ℕ → Bool) (n : ℕ) → some f n ≡ true → lowest f n < n
 lowest_below f zero e = absurd (both_ways false refl e)
@@ -90,7 +94,7 @@ laid_alike {w} {a} {b} there g law backup i has e =
 
 -- so does a home
 home_alike : (w : Crew) (a b : Meaning) (there : ℕ → Bool) (h : Home) (s t : Geometry) → Lawful s → Lawful t → (backup i : ℕ)
-    → HomeHas h w s t backup i (seen_by there b) → Alike (Reads h s t backup i) a b
+    → HomeHas h w s t backup i (seen_by there b) → Alike (MayRead h s t backup i) a b
     → content_at h s t (seen_by there b) backup i ≡ content_at h s t (seen_by there a) backup i
 home_alike w a b there Source s t law next backup i has e = laid_alike there s law backup i has e
 home_alike w a b there Target s t law next backup i has e = laid_alike there t next backup i has e
@@ -124,7 +128,7 @@ seen_now w f a of here = seen w f (f a) of here (record { may = may_refl a; goes
 
 -- What was seen later was to be seen before, where what a look reads is as it was.
 pub seen_before : {w : Crew} {P : ℕ → ℕ → List ℕ → Type 0} {a b d : Meaning} (h : Home) (s t : Geometry) → Lawful s → Lawful t → (backup i : ℕ)
-    → HomeHas h w s t backup i b → May P a b → ((k n : ℕ) → Reads h s t backup i k n → b.current k n ≡ a.current k n) → (x : List ℕ)
+    → HomeHas h w s t backup i b → May P a b → ((k n : ℕ) → MayRead h s t backup i k n → b.current k n ≡ a.current k n) → (x : List ℕ)
     → SeenBy w b d (λ m. content_at h s t m backup i) x → SeenBy w a d (λ m. content_at h s t m backup i) x
 seen_before {w} {P} {a} {b} h s t law next backup i has m same x seen = record {
   there = seen.there;
@@ -155,3 +159,15 @@ seen_later f x m seen = record {
   enough = seen.enough;
   is = seen.is;
 }
+
+-- every sector below the size can be had
+abbrev pub HasAll : Volume → Meaning → Type 0
+HasAll v a = HasSize v.crew (home_by v) v.crew.source v.crew.target v.backup v.size a
+
+-- so members are enough, where there is a sector at all
+pub all_enough : (v : Volume) (a : Meaning) → HasAll v a → (i : ℕ) → i < v.size → enough v.crew a ≡ true
+all_enough v a has i lt = home_enough v.crew (home_by v i) v.crew.source v.crew.target v.backup i a (has.each i lt)
+
+-- and stays so
+pub all_kept : {P : ℕ → ℕ → List ℕ → Type 0} (v : Volume) {a b : Meaning} → May P a b → GoesOn v.crew a b → HasAll v a → HasAll v b
+all_kept v m go has = size_kept (home_by v) v.crew.source v.crew.target v.backup v.size (record { may = m; goes = go }) has

@@ -21,14 +21,14 @@ use Rattle.model.proofs.Mays.{may_refl, may_then, may_unless, may_wider, quiet}
 use Rattle.model.proofs.Seeing.{content_seen, seen}
 use Rattle.model.proofs.Slots.{content_left, content_set, saved_before, saved_else, saved_last, saved_sofar, unsaved, with_content}
 use Rattle.stage.specs.Done.{FlushedAll, WrittenAll}
-use Rattle.stage.specs.Endings.{HasSize, OnMember, StageEnds, reads_and_writes}
+use Rattle.stage.specs.Endings.{OnMember, StageEnds, reads_and_writes}
 use Rattle.stage.specs.Looks.{HomeHas, OnHome, ShowsSector}
-use Rattle.stage.specs.Rows.{InRow, Reads, Savable, SavesBy, SavesSector}
+use Rattle.stage.specs.Rows.{InRow, MayRead, Savable, SavesBy, SavesSector}
 use Rattle.stage.proofs.Chains.{names_as, stage_after, stage_may}
-use Rattle.stage.proofs.Endings.{Going, ends_after, going_then, member_same, met_after, met_ends, no_plan, on_home, on_sector, size_kept, slots, stage_ends}
+use Rattle.stage.proofs.Endings.{Going, ends_after, going_then, member_same, met_after, met_ends, no_plan, on_home, on_sector, slots, stage_ends}
 use Rattle.stage.proofs.Loops.{was_present}
 use Rattle.stage.proofs.Stepping.{Begun, carried_after}
-use Rattle.stage.proofs.Earlier.{home_enough, seen_before, seen_later, seen_now}
+use Rattle.stage.proofs.Earlier.{HasAll, all_enough, all_kept, home_enough, seen_before, seen_later, seen_now}
 
 -- a look at the sector was met
 pub look_unsaved : (v : Volume) (i : ℕ) (a b : Meaning) (e : Refused)
@@ -89,10 +89,10 @@ next_content {v} {from} {n} p = with_content (from + n) p.saves.content p.sofar.
 
 -- no place of a layout is a slot
 source_still : {v : Volume} {from n : ℕ} {a b d : Meaning} {r : Result Unit Refused} (p : SavesNext v from a n b d r) (k s : ℕ)
-    → Reads (home_by v (from + n)) v.crew.source v.crew.target v.backup (from + n) k s → b.current k s ≡ a.current k s
+    → MayRead (home_by v (from + n)) v.crew.source v.crew.target v.backup (from + n) k s → b.current k s ≡ a.current k s
 source_still {v} {from} {n} {a} {b} p k s reads =
     let in_row : InRow v.crew.source v.backup ((from + n) / v.crew.source.row_len) k s =
-    subst (λ h. Reads h v.crew.source v.crew.target v.backup (from + n) k s) p.home reads in
+    subst (λ h. MayRead h v.crew.source v.crew.target v.backup (from + n) k s) p.home reads in
     elim (p.sofar.may.current k s) [
       | inl e ↦ e
       | inr e ↦ e ∙ unsaved v.backup p.sofar.content from n a.current k s (λ j lt at.
@@ -174,10 +174,6 @@ all_saved v from to a b d so goes r flush =
       carries = carried_after d (OnMember reads_and_writes a) begun (λ k s. inl tt) (on_sector Flush refl a 0) r flush;
     }
 
--- every sector below the size can be had
-abbrev pub HasAll : Volume → Meaning → Type 0
-HasAll v a = HasSize v.crew (home_by v) v.crew.source v.crew.target v.backup v.size a
-
 -- a save that has come to sector i
 pub record SavedUpto (v : Volume) (from to : ℕ) (a : Meaning) (i : ℕ) (b : Meaning) : Type 0 where
   pub going : Going v.crew (InSlots v.backup) a b
@@ -191,7 +187,7 @@ save_begins v from to a lt most has = record {
   has = has;
   saving = λ can. (let none : 0 ≡ from - from = omega arith in
       subst (λ n. Saving v from a n a) none
-      (none_saved v from a (home_enough v.crew (home_by v from) v.crew.source v.crew.target v.backup from a (has.each from (omega (arith, lt, most))))));
+      (none_saved v from a (all_enough v a has from (omega (arith, lt, most)))));
 }
 
 -- at a sector, which came to r
@@ -237,7 +233,7 @@ save_next {v} {from} {to} {a} {i} {b} {d} law next some most p =
     let below = p.below in
     record {
       going = going_then p.upto.going s.0 s.1;
-      has = size_kept (home_by v) v.crew.source v.crew.target v.backup v.size (record { may = s.0; goes = s.1 }) p.upto.has;
+      has = all_kept v s.0 s.1 p.upto.has;
       saving = λ can. (let more : suc (i - from) ≡ i + 1 - from = omega (arith, first) in
           subst (λ n. Saving v from a n d) more (one_saved law next (next_saves p can (omega (arith, below, most)))));
     }
@@ -252,7 +248,8 @@ save_met d e law next most can p =
     (let first = p.first in let below = p.below in one_met law next (omega (arith, first, below)) can.slots (next_saves p can (omega (arith, below, most))))
 
 -- and at its end
-pub save_done : {v : Volume} {from to : ℕ} {a : Meaning} (i : ℕ) {b : Meaning} (d : Meaning) → i ≡ to → SavedUpto v from to a i b → Savable v from to → (r : Result Unit Refused)
+pub save_done : {v : Volume} {from to : ℕ} {a : Meaning} (i : ℕ) {b : Meaning} (d : Meaning) → i ≡ to → SavedUpto v from to a i b → Savable v from to
+    → (r : Result Unit Refused)
     → Stage v.crew nothing (OnSector Flush b 0) b d (λ u. FlushedAll d) r → SavesBy v from to a d r
 save_done {v} {from} {to} {a} i {b} d end upto can r flush =
     all_saved v from to a b d (subst (λ n. Saving v from a (n - from) b) end (upto.saving can)) upto.going.goes r flush
@@ -261,4 +258,5 @@ pub slots_done : {v : Volume} {from to : ℕ} {a : Meaning} (i : ℕ) {b : Meani
     → Stage v.crew nothing (OnSector Flush b 0) b d (λ u. FlushedAll d) r → StageEnds v.crew reads_and_writes (InSlots v.backup) a d r
 slots_done {v} {from} {to} {a} i {b} d upto r flush =
     ends_after reads_and_writes d upto.going r
-    (stage_ends v.crew reads_and_writes (InSlots v.backup) nothing (OnSector Flush b 0) b d (λ u. FlushedAll d) (no_plan (InSlots v.backup)) (on_sector Flush refl b 0) r flush)
+    (stage_ends v.crew reads_and_writes (InSlots v.backup) nothing (OnSector Flush b 0) b d (λ u. FlushedAll d) (no_plan (InSlots v.backup))
+    (on_sector Flush refl b 0) r flush)

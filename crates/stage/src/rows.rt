@@ -1,7 +1,8 @@
 // Whole rows: saved into the backup slots, placed in the target, or cleared.
-ghost use Rattle.std.specs.Prelude.{◌≡◌, ℕ, ◌+◌, ◌<◌, ◌≤◌, replicate, Ok, None};
+ghost use Rattle.std.specs.Prelude.{◌≡◌, ℕ, ◌+◌, ◌/◌, ◌<◌, ◌≤◌, replicate, Ok, None};
 ghost use Rattle.sector.specs.declared.TheConstants.{SECTOR};
 ghost use Rattle.head.specs.declared.TheConstants.{SLOTS_AT};
+ghost use Rattle.layout.specs.Geometry.{capacity};
 ghost use Rattle.model.specs.Ends.{Stage};
 ghost use Rattle.model.specs.Images.{created_over};
 ghost use Rattle.model.specs.May.{From, InSlots, May, nothing};
@@ -10,7 +11,7 @@ ghost use Rattle.stage.specs.Arrays.{crew_of, volume_on};
 ghost use Rattle.stage.specs.Endings.{Carries, HasVolume, OnMember, StageEnds, only_writes, reads_and_writes};
 ghost use Rattle.stage.specs.Looks.{HomeHas, homes_of};
 ghost use Rattle.stage.specs.Places.{AtPlace, PlaceHolds};
-ghost use Rattle.stage.specs.Rows.{Savable, SavesBy, SavesSector};
+ghost use Rattle.stage.specs.Rows.{CopyOf, GroupReady, InGroup, LedBy, LooksAhead, Placeable, PlaceableRow, PlacesBy, PlacesRow, Savable, SavesBy, SavesSector};
 
 use crate::array::Array;
 use answer::Refused;
@@ -50,6 +51,7 @@ impl<L: Layout> Array<L> {
     pub fn place_row<S: Shelf>(&self, shelf: &mut S, sectors: Range<u64>) -> Result<(), Refused>
         ensures may { May (From (SLOTS_AT + self.now.head.backup)) (S.meaning shelf.old) (S.meaning shelf.new) }
         ensures ends { HasVolume L.geometry self.now (S.meaning shelf.old) → StageEnds (crew_of L.geometry self.now) reads_and_writes (From (SLOTS_AT + self.now.head.backup)) (S.meaning shelf.old) (S.meaning shelf.new) result }
+        ensures places { HasVolume L.geometry self.now (S.meaning shelf.old) → (row : ℕ) → PlaceableRow (volume_on L.geometry self.now None) row sectors.start sectors.end → PlacesRow (volume_on L.geometry self.now None) row (S.meaning shelf.old) (S.meaning shelf.new) result }
     {
         for sector in sectors.start..sectors.end {
             self.place_led(shelf, sector)?;
@@ -60,7 +62,7 @@ impl<L: Layout> Array<L> {
     // Writes a sector to the target, with its group if it leads one.
     fn place_led<S: Shelf>(&self, shelf: &mut S, sector: u64) -> Result<(), Refused>
         ensures may { May (From (SLOTS_AT + self.now.head.backup)) (S.meaning shelf.old) (S.meaning shelf.new) }
-        ensures ends { HasVolume L.geometry self.now (S.meaning shelf.old) → StageEnds (crew_of L.geometry self.now) reads_and_writes (From (SLOTS_AT + self.now.head.backup)) (S.meaning shelf.old) (S.meaning shelf.new) result }
+        ensures places { let t = L.geometry self.now.target in HasVolume L.geometry self.now (S.meaning shelf.old) → PlacesBy (volume_on L.geometry self.now None) (Placeable (volume_on L.geometry self.now None) (sector / t.row_len)) (LedBy t sector) (S.meaning shelf.old) (S.meaning shelf.new) result }
     {
         match self.target.group(sector) {
             None => self.place_sector(shelf, sector),
@@ -73,7 +75,7 @@ impl<L: Layout> Array<L> {
     // Writes a sector to its copies in the target.
     fn place_sector<S: Shelf>(&self, shelf: &mut S, sector: u64) -> Result<(), Refused>
         ensures may { May (From (SLOTS_AT + self.now.head.backup)) (S.meaning shelf.old) (S.meaning shelf.new) }
-        ensures ends { HasVolume L.geometry self.now (S.meaning shelf.old) → StageEnds (crew_of L.geometry self.now) reads_and_writes (From (SLOTS_AT + self.now.head.backup)) (S.meaning shelf.old) (S.meaning shelf.new) result }
+        ensures places { HasVolume L.geometry self.now (S.meaning shelf.old) → PlacesBy (volume_on L.geometry self.now None) (sector < capacity (L.geometry self.now.target)) (CopyOf sector) (S.meaning shelf.old) (S.meaning shelf.new) result }
     {
         let content = self.content_ahead(shelf, sector)?;
         self.write_copies(shelf, &self.target, sector, &content)
@@ -82,7 +84,7 @@ impl<L: Layout> Array<L> {
     // Writes the sectors of a group and their parity to the target.
     fn place_group<S: Shelf>(&self, shelf: &mut S, group: u64) -> Result<(), Refused>
         ensures may { May (From (SLOTS_AT + self.now.head.backup)) (S.meaning shelf.old) (S.meaning shelf.new) }
-        ensures ends { HasVolume L.geometry self.now (S.meaning shelf.old) → StageEnds (crew_of L.geometry self.now) reads_and_writes (From (SLOTS_AT + self.now.head.backup)) (S.meaning shelf.old) (S.meaning shelf.new) result }
+        ensures places { HasVolume L.geometry self.now (S.meaning shelf.old) → PlacesBy (volume_on L.geometry self.now None) (GroupReady (volume_on L.geometry self.now None) group) (InGroup (L.geometry self.now.target) group) (S.meaning shelf.old) (S.meaning shelf.new) result }
     {
         let mut parity = zeros();
         for index in 0..self.target.peers(group) {
@@ -97,7 +99,7 @@ impl<L: Layout> Array<L> {
     // What a target row is to hold of a sector: its content, and zeros from the size on.
     fn content_ahead<S: Shelf>(&self, shelf: &mut S, sector: u64) -> Result<Sector, Refused>
         ensures may { May nothing (S.meaning shelf.old) (S.meaning shelf.new) }
-        ensures ends { HasVolume L.geometry self.now (S.meaning shelf.old) → StageEnds (crew_of L.geometry self.now) reads_and_writes nothing (S.meaning shelf.old) (S.meaning shelf.new) result }
+        ensures looks { HasVolume L.geometry self.now (S.meaning shelf.old) → LooksAhead (volume_on L.geometry self.now None) sector (S.meaning shelf.old) (S.meaning shelf.new) result }
     {
         if sector < self.head.size {
             self.show(shelf, sector)

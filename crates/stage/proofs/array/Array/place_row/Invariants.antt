@@ -1,11 +1,13 @@
-use Rattle.std.proofs.Common.{◌+◌}
-use Rattle.model.specs.Ends.{GoesOn}
+use Rattle.std.proofs.Common.{None, ◌+◌}
 use Rattle.model.specs.May.{From, May}
-use Rattle.stage.specs.Arrays.{crew_of}
+use Rattle.stage.specs.Arrays.{volume_on}
 use Rattle.stage.specs.Endings.{HasVolume}
+use Rattle.stage.proofs.PlacedRow.{RowUpto}
 use Rattle.stage.proofs.array.Array.place_row.Given as goal
 
 abbrev pub invariant-loop-sector : goal.invariant-loop-sector
 invariant-loop-sector g l =
-    May (From (3 + l.self.head.backup)) (g.S.Shelf.meaning l.initial.shelf) (g.S.Shelf.meaning l.shelf) ×
-    (HasVolume g.L.Layout.geometry l.self (g.S.Shelf.meaning l.initial.shelf) → GoesOn (crew_of g.L.Layout.geometry l.self) (g.S.Shelf.meaning l.initial.shelf) (g.S.Shelf.meaning l.shelf))
+    let a = g.S.Shelf.meaning l.initial.shelf in
+    let b = g.S.Shelf.meaning l.shelf in
+    May (From (3 + l.self.head.backup)) a b
+    × (HasVolume g.L.Layout.geometry l.self a → RowUpto (volume_on g.L.Layout.geometry l.self None) l.fn.sectors.start l.fn.sectors.end l.sector a b)

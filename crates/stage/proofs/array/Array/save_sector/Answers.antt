@@ -18,7 +18,8 @@ returns-in_err-content-clause-saves g c = λ has.
 pub returns-clause-may : goal.returns-clause-may
 returns-clause-may g c =
     let slot : c.args.sector % c.args.self.now.head.backup < c.args.self.now.head.backup = omega arith in
-    may_then (quiet c.show.ensures.may) (may_wider (λ k s x p. slots c.args.self.now.head.backup _ _ k s x slot p) (stage_may _ _ _ c.write_slot.result c.write_slot.ensures))
+    may_then (quiet c.show.ensures.may) (may_wider (λ k s x p. slots c.args.self.now.head.backup _ _ k s x slot p)
+    (stage_may _ _ _ c.write_slot.result c.write_slot.ensures))
 
 pub returns-clause-saves : goal.returns-clause-saves
 returns-clause-saves g c = λ has.
