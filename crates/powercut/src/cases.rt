@@ -1,8 +1,8 @@
 // One run of a list of calls, with trouble in one of them and in the opens after it.
 use crate::rig::{Loss, Rig, Trouble};
 use crate::run::{Run, Stand};
-use crate::turns::Turn;
 use crate::tally::Tally;
+use crate::turns::Turn;
 use drill::DrillShelf;
 use layout::Layout;
 use model::phase::Phase;

@@ -10,9 +10,9 @@ mod pattern;
 mod random;
 mod rig;
 mod run;
-mod turns;
 mod tally;
 mod tries;
+mod turns;
 
 use anyhow::ensure;
 use model::{

@@ -2,8 +2,8 @@
 use crate::cases::{Case, Sequel};
 use crate::rig::{Cut, Loss, Rig, Side, Trouble};
 use crate::run::Stand;
-use crate::turns::Turn;
 use crate::tally::Tally;
+use crate::turns::Turn;
 use drill::DrillShelf;
 use layout::Layout;
 use shelf::trial::TrialShelf;
