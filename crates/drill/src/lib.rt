@@ -1,7 +1,7 @@
 // The drill shelf: a trial shelf whose power can go at every operation, restarts among them, by a schedule.
 #![tactic(auto)]
 
-ghost use Rattle.std.specs.Prelude.{◌≡◌, ◌<◌, true, false, length, Err};
+ghost use Rattle.std.specs.Prelude.{◌≡◌, ◌<◌, ◌≤◌, true, false, length, Err};
 ghost use Rattle.shelf.specs.Answers.{done};
 ghost use Rattle.shelf.specs.Meaning.{Flushed, OperationInRange, Reads, Restarts, Writes};
 ghost use Rattle.shelf.specs.Trials.{means};
@@ -9,6 +9,8 @@ ghost use Rattle.drill.specs.Drills.{Begun, Darkens, DrillRestarts, Drilled, Sch
 ghost use Rattle.drill.specs.Schedules.{losing_at, word_at};
 ghost use Rattle.shelf.specs.declared.Failure.TheVariants.{Off};
 ghost use Rattle.drill.specs.declared.schedule.Power.TheVariants.{GoesAfter, GoesBefore};
+ghost use Rattle.sector.specs.declared.limits.TheConstants.{MOST_MEMBERS};
+ghost use Rattle.shelf.specs.declared.TheConstants.{MOST_SECTORS};
 ghost use Rattle.std.proofs.Common.{rules};
 
 use answer::Refusal;
@@ -70,6 +72,20 @@ impl DrillShelf {
             incidents,
             choices: Choices::new(choices),
         }
+    }
+
+    // The shelf within, as the operations left it.
+    pub fn into_inner(self) -> TrialShelf
+        ensures { result ≡ self.inner }
+    {
+        let DrillShelf {
+            inner,
+            dark: _,
+            clock: _,
+            incidents: _,
+            choices: _,
+        } = self;
+        inner
     }
 
     // The number of the next operation.
@@ -168,11 +184,17 @@ impl Shelf for DrillShelf {
 
     ghost inside = { Prim.search rules };
 
-    fn members(&self) -> u64 {
+    fn members(&self) -> u64
+        ensures members { result ≡ (drill_meaning self.now).members }
+        ensures few { result ≤ MOST_MEMBERS }
+    {
         self.inner.members()
     }
 
-    fn sectors(&self) -> u64 {
+    fn sectors(&self) -> u64
+        ensures sectors { result ≡ (drill_meaning self.now).sectors }
+        ensures short { result ≤ MOST_SECTORS }
+    {
         self.inner.sectors()
     }
 
