@@ -186,21 +186,55 @@ fn expected(layout: &Stock) -> u64 {
     data.saturating_add(parities)
 }
 
-// a recording under way: what was found so far, and the places that lie where the layout has them
+// Places of a member one after another, from `start` up to `end`.
+#[derive(Clone, Copy, PartialEq, Eq, PartialOrd, Ord)]
+struct Span {
+    member: u64,
+    start: u64,
+    end: u64,
+}
+
+// How many places are in the spans, each counted once; the spans are in order.
+fn covered(spans: &[Span]) -> u64 {
+    let mut covered: u64 = 0;
+    // up to where the places of a member are counted
+    let mut member = 0;
+    let mut counted = 0;
+    for span in spans {
+        if span.member != member {
+            member = span.member;
+            counted = 0;
+        }
+        let start = span.start.max(counted);
+        covered = covered.saturating_add(span.end.saturating_sub(start));
+        counted = counted.max(span.end);
+    }
+    covered
+}
+
+// a recording under way: what was found so far, how many places lie where the layout has them, and these places. They are kept as spans,
+// since a chunk has up to 2,048 of them and a recording may name all places of the largest layout.
 #[derive(Drop)]
 struct Reading {
     recorded: Recorded,
     found: Comparison,
-    places: Vec<Place>,
+    named: u64,
+    spans: Vec<Span>,
 }
 
 impl Reading {
-    // Counts one place.
+    // Counts one place. One that comes right after the latest lengthens its span.
     fn count(&mut self, lies: bool, at: Place) -> Result<(), NoRecording> {
-        if lies {
-            self.places.push(at)?;
-        } else {
+        if !lies {
             self.found.differing = self.found.differing.saturating_add(1);
+            return Ok(());
+        }
+        self.named = self.named.saturating_add(1);
+        let (member, start) = at;
+        let end = start.saturating_add(1);
+        match self.spans.last_mut() {
+            Some(span) if span.member == member && span.end == start => span.end = end,
+            _ => self.spans.push(Span { member, start, end })?,
         }
         Ok(())
     }
@@ -238,12 +272,10 @@ impl Reading {
 
     // Each place of the layout is to be there once.
     fn whole(mut self) -> Comparison {
-        let named = self.places.len() as u64;
-        self.places.sort_unstable();
-        self.places.dedup();
-        let different = self.places.len() as u64;
+        self.spans.sort_unstable();
+        let different = covered(&self.spans);
         Comparison {
-            doubled: named.saturating_sub(different),
+            doubled: self.named.saturating_sub(different),
             missing: expected(&self.recorded.layout).saturating_sub(different),
             same_capacity: self.recorded.capacity == self.recorded.layout.capacity(),
             ..self.found
@@ -257,7 +289,8 @@ pub fn compare(heap: Global, text: &str) -> Result<Comparison, NoRecording> {
     let mut reading = Reading {
         recorded: first_line(lines.next().unwrap_or(""))?,
         found: Comparison::default(),
-        places: Vec::new(heap),
+        named: 0,
+        spans: Vec::new(heap),
     };
     for line in lines {
         reading.add_line(line)?;
@@ -287,6 +320,10 @@ mod tests {
 
     const DOUBLED: &str =
         "# near 3 2 1 2 3\nD 0 0 0 0\nD 0 1 1 0\nD 1 0 2 0\nD 1 1 0 1\nD 2 0 1 1\nD 0 0 0 0\n";
+
+    // A chunk that begins in the middle of one that is named too.
+    const OVERLAPPING: &str =
+        "# striped 2 1 2 4 8\nD 0 0 0 0\nD 1 0 0 1\nD 2 0 1 0\nD 4 0 0 2\nD 6 0 1 2\n";
 
     #[test]
     fn recordings(rt: HostRuntime) {
@@ -333,6 +370,15 @@ mod tests {
                 Comparison {
                     doubled: 1,
                     missing: 1,
+                    ..whole
+                },
+            ),
+            (
+                OVERLAPPING,
+                Comparison {
+                    data: 10,
+                    differing: 1,
+                    doubled: 1,
                     ..whole
                 },
             ),
