@@ -1,1 +1,2 @@
+pub mod LimitValues
 pub mod Worked

@@ -1,10 +1,11 @@
 use mathlib.Core.Path.{refl}
 use lib.Dec.{lit<, lit≤}
 use Rattle.cases.proofs.Empty.{empty}
+use Rattle.cases.proofs.Valued.{limits}
 use Rattle.cases.proofs.worked_examples.Goals as goal
 
-pub returns : goal.returns
-returns c = record {
+pub returns-clause-examples : goal.returns-clause-examples
+returns-clause-examples c = record {
   striped = λ h. refl;
   left_datum = λ h. refl;
   left_parity = λ h. refl;
@@ -20,3 +21,6 @@ returns c = record {
   at_row = (refl, refl);
   empty = empty;
 }
+
+pub returns-clause-limits : goal.returns-clause-limits
+returns-clause-limits c = limits
