@@ -194,36 +194,40 @@ struct Span {
     end: u64,
 }
 
-// How many places are in the spans, each counted once; the spans are in order.
-fn covered(spans: &[Span]) -> u64 {
-    let mut covered: u64 = 0;
-    // up to where the places of a member are counted
-    let mut member = 0;
-    let mut counted = 0;
-    for span in spans {
-        if span.member != member {
-            member = span.member;
-            counted = 0;
-        }
-        let start = span.start.max(counted);
-        covered = covered.saturating_add(span.end.saturating_sub(start));
-        counted = counted.max(span.end);
+impl Span {
+    // Whether another one begins in it or where it ends.
+    fn meets(&self, next: &Span) -> bool {
+        self.member == next.member && (self.start..=self.end).contains(&next.start)
     }
-    covered
 }
 
-// a recording under way: what was found so far, how many places lie where the layout has them, and these places. They are kept as spans,
-// since a chunk has up to 2,048 of them and a recording may name all places of the largest layout.
+// so many spans are kept before they are joined for the first time
+const FEW: usize = 4_096;
+
+// Adds a span; one that meets the latest is joined with it.
+fn add(spans: &mut Vec<Span>, next: Span) -> Result<(), NoRecording> {
+    match spans.last_mut() {
+        Some(latest) if latest.meets(&next) => latest.end = latest.end.max(next.end),
+        _ => spans.push(next)?,
+    }
+    Ok(())
+}
+
+// A recording under way: what was found so far, how many places lie where the layout has them, and these places. They are kept as spans
+// that are joined as they double, since a recording may name all places of the largest layout.
 #[derive(Drop)]
 struct Reading {
     recorded: Recorded,
     found: Comparison,
     named: u64,
     spans: Vec<Span>,
+    heap: Global,
+    // how many spans there are when they are joined again
+    due: usize,
 }
 
 impl Reading {
-    // Counts one place. One that comes right after the latest lengthens its span.
+    // Counts one place.
     fn count(&mut self, lies: bool, at: Place) -> Result<(), NoRecording> {
         if !lies {
             self.found.differing = self.found.differing.saturating_add(1);
@@ -232,10 +236,21 @@ impl Reading {
         self.named = self.named.saturating_add(1);
         let (member, start) = at;
         let end = start.saturating_add(1);
-        match self.spans.last_mut() {
-            Some(span) if span.member == member && span.end == start => span.end = end,
-            _ => self.spans.push(Span { member, start, end })?,
+        if self.spans.len() >= self.due {
+            self.join()?;
         }
+        add(&mut self.spans, Span { member, start, end })
+    }
+
+    // Joins the spans that meet, so that no two of them share a place.
+    fn join(&mut self) -> Result<(), NoRecording> {
+        self.spans.sort_unstable();
+        let mut joined = Vec::new(self.heap);
+        for span in &self.spans {
+            add(&mut joined, *span)?;
+        }
+        self.due = joined.len().saturating_mul(2).max(FEW);
+        self.spans = joined;
         Ok(())
     }
 
@@ -271,15 +286,18 @@ impl Reading {
     }
 
     // Each place of the layout is to be there once.
-    fn whole(mut self) -> Comparison {
-        self.spans.sort_unstable();
-        let different = covered(&self.spans);
-        Comparison {
+    fn whole(mut self) -> Result<Comparison, NoRecording> {
+        self.join()?;
+        let mut different: u64 = 0;
+        for span in &self.spans {
+            different = different.saturating_add(span.end.saturating_sub(span.start));
+        }
+        Ok(Comparison {
             doubled: self.named.saturating_sub(different),
             missing: expected(&self.recorded.layout).saturating_sub(different),
             same_capacity: self.recorded.capacity == self.recorded.layout.capacity(),
             ..self.found
-        }
+        })
     }
 }
 
@@ -291,11 +309,13 @@ pub fn compare(heap: Global, text: &str) -> Result<Comparison, NoRecording> {
         found: Comparison::default(),
         named: 0,
         spans: Vec::new(heap),
+        heap,
+        due: FEW,
     };
     for line in lines {
         reading.add_line(line)?;
     }
-    Ok(reading.whole())
+    reading.whole()
 }
 
 #[cfg(test)]
@@ -325,68 +345,52 @@ mod tests {
     const OVERLAPPING: &str =
         "# striped 2 1 2 4 8\nD 0 0 0 0\nD 1 0 0 1\nD 2 0 1 0\nD 4 0 0 2\nD 6 0 1 2\n";
 
+    // One that begins in a span that another one after its start does not reach the end of.
+    const WITHIN: &str =
+        "# striped 2 1 4 8 16\nD 0 0 0 0\nD 8 0 0 4\nD 8 0 0 4\nD 1 0 0 1\nD 4 0 1 0\nD 12 0 1 4\n";
+
+    const WHOLE: Comparison = Comparison {
+        data: 6,
+        parities: 0,
+        differing: 0,
+        doubled: 0,
+        missing: 0,
+        same_capacity: true,
+    };
+
+    // What one of these texts gives, its numbers in the order of the fields.
+    fn found(data: u64, differing: u64, doubled: u64, missing: u64) -> Comparison {
+        Comparison {
+            data,
+            differing,
+            doubled,
+            missing,
+            ..WHOLE
+        }
+    }
+
     #[test]
     fn recordings(rt: HostRuntime) {
-        let whole = Comparison {
-            data: 6,
-            same_capacity: true,
-            ..Comparison::default()
-        };
         for (text, due) in [
-            (GOOD, whole),
-            (
-                PLACE,
-                Comparison {
-                    differing: 1,
-                    missing: 1,
-                    ..whole
-                },
-            ),
-            (
-                SECTOR_AMISS,
-                Comparison {
-                    differing: 1,
-                    missing: 1,
-                    ..whole
-                },
-            ),
-            (
-                CAPACITY,
-                Comparison {
-                    same_capacity: false,
-                    ..whole
-                },
-            ),
-            (
-                SHORT,
-                Comparison {
-                    data: 5,
-                    missing: 1,
-                    ..whole
-                },
-            ),
-            (
-                DOUBLED,
-                Comparison {
-                    doubled: 1,
-                    missing: 1,
-                    ..whole
-                },
-            ),
-            (
-                OVERLAPPING,
-                Comparison {
-                    data: 10,
-                    differing: 1,
-                    doubled: 1,
-                    ..whole
-                },
-            ),
+            (GOOD, WHOLE),
+            (PLACE, found(6, 1, 0, 1)),
+            (SECTOR_AMISS, found(6, 1, 0, 1)),
+            (SHORT, found(5, 0, 0, 1)),
+            (DOUBLED, found(6, 0, 1, 1)),
+            (OVERLAPPING, found(10, 1, 1, 0)),
+            (WITHIN, found(24, 1, 7, 0)),
         ] {
             let found = compare(rt.alloc(), text);
             assert_eq!(rt; found, Ok(due));
-            assert_eq!(rt; found.is_ok_and(|found| found.agrees()), due == whole);
+            assert_eq!(rt; found.is_ok_and(|found| found.agrees()), due == WHOLE);
         }
+        let found = compare(rt.alloc(), CAPACITY);
+        let other = Comparison {
+            same_capacity: false,
+            ..WHOLE
+        };
+        assert_eq!(rt; found, Ok(other));
+        assert!(rt; !other.agrees());
     }
 
     #[test]
